@@ -1,0 +1,6 @@
+pub mod Readers
+pub mod GateLaw
+pub mod StartLaw
+pub mod FaultLaw
+pub mod HeadLaw
+pub mod JobLaw

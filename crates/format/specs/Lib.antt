@@ -1,0 +1,4 @@
+pub mod Descriptions
+pub mod Written
+pub mod Reading
+pub mod Law

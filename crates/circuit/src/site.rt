@@ -1,4 +1,4 @@
-// Where faults sit.
+// Where faults sit, and lists of them.
 
 /// A line, or one pin of the gate that drives a line.
 #[derive(Clone, Copy, PartialEq, Eq, Debug)]

@@ -280,3 +280,7 @@ job-complete file d l w =
 -- the law of the format
 pub exactly : (file : List ℕ) → Exactly file (jobOf file)
 exactly file = record { sound = job-sound file; complete = job-complete file }
+
+-- and a netlist that is read, whatever follows it, is lawful but for its start
+pub parts-lawful : (end : ℕ) (s rest : List ℕ) (p : Netlist × Option (List Fault)) → partsOf end s ≡ Ok (p, rest) → Lawful (p .0)
+parts-lawful end s rest p h = parts-fits end .sound s p rest h .1 .lawful

@@ -4,7 +4,7 @@ ghost use Prim.Native.Nat.{ℕ, _+_, _≤_};
 ghost use lib.ListN.{length, take};
 ghost use Rattle.field.specs.Fields.{Inside, seen};
 ghost use Rattle.format.specs.Reading.{faultOf, faultsOf};
-ghost use Rattle.reader.specs.Views.{seenBy};
+ghost use Rattle.reader.specs.Views.{seenBy, FewRead};
 use circuit::drive::has;
 use circuit::netlist::Netlist;
 use circuit::site::Fault;
@@ -59,6 +59,7 @@ pub fn read_faults<'a>(
     requires few { ⌜ now netlist .inputs ≤ 8 ⌝ ∗ ⌜ now netlist .gates ≤ 40 ⌝ }
     ensures is { λ r. ⌜ seenBy (λ list. take (list .count) (list .fault)) r ≡ faultsOf (now (netlist .entry) .inputs) (now (netlist .entry) .inputs + now (netlist .entry) .gates) (now (netlist .entry) .gate) end (now (s .entry)) ⌝ }
     ensures inside { λ r. ⌜ Inside end r ⌝ }
+    ensures few { λ r. ⌜ FewRead r ⌝ }
 {
     let most = Field::Count {
         least: 1,

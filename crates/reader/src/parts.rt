@@ -5,7 +5,7 @@ ghost use lib.ListN.{length};
 ghost use Rattle.field.specs.Fields.{Inside};
 ghost use Rattle.format.specs.Reading.{partsOf};
 ghost use Rattle.reader.specs.Views.{seenBy};
-ghost use Rattle.reader.specs.Parts.{partsSeen};
+ghost use Rattle.reader.specs.Parts.{partsSeen, FewNamed};
 use crate::fault::read_faults;
 use crate::gate::read_gates;
 use crate::head::read_head;
@@ -25,6 +25,7 @@ pub struct Parts {
 pub fn read_parts(file: &[u8]) -> Result<(Parts, &[u8]), FileFault>
     ensures is { λ r. ⌜ seenBy partsSeen r ≡ partsOf (length (now (file .entry))) (now (file .entry)) ⌝ }
     ensures inside { λ r. ⌜ Inside (length (now (file .entry))) r ⌝ }
+    ensures few { λ r. ⌜ FewNamed r ⌝ }
 {
     let end = file.len();
     let (head, rest) = read_head(file, end)?;

@@ -34,6 +34,7 @@ returns-in-Break-named c =
           row-refused (λ before. faultOf (c .args .netlist .now .inputs) (c .args .netlist .now .inputs + c .args .netlist .now .gates) (c .args .netlist .now .gate) (c .args .end)) _ (take (c .loop-n .n) (c .loop-n .fault)) (c .loop-n .rest .now) (c .in-Break-named .field-0 .0) _ (omega arith)
           (c .in-Break-named .ensures tt .is) (c .loop-n .inv .2);
       inside = tt;
+      few = tt;
     })
 
 pub loop-n-again : need.loop-n-again

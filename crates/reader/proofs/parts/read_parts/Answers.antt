@@ -42,6 +42,7 @@ returns-in-Break-list c =
           (c .in-Continue-head .ensures tt .is) (c .in-Continue-gate .ensures tt .is) (c .if-not-has .ensures tt) (c .in-Break-list .field-0 .0)
           (c .in-Break-list .ensures tt .is ∙ sym (faults-same (h .inputs) (h .gates) (length (c .args .file .now)) (c .in-Continue-gate .gate) (c .in-Continue-gate .rest .now)));
       inside = tt;
+      few = tt;
     })
 
 pub returns : need.returns
@@ -56,4 +57,5 @@ returns c =
           (c .in-Continue-list .ensures tt .is ∙ sym (faults-same (h .inputs) (h .gates) (length (c .args .file .now)) (c .in-Continue-gate .gate) (c .in-Continue-gate .rest .now)))
           (together n (headSeen h) refl refl refl refl l);
       inside = c .in-Continue-list .ensures tt .inside;
+      few = c .in-Continue-list .ensures tt .few;
     }

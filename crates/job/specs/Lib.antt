@@ -1,0 +1,3 @@
+pub mod BuiltIn
+pub mod Making
+pub mod Answers

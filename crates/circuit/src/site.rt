@@ -1,4 +1,7 @@
 // Where faults sit, and lists of them.
+ghost use Rattle.circuit.specs.Texts.{siteText, faultText};
+ghost use Rattle.std.specs.declared.option.Option.the-variants.{Some};
+use std::fmt;
 
 /// A line, or one pin of the gate that drives a line.
 #[derive(Clone, Copy, PartialEq, Eq, Debug)]
@@ -19,4 +22,27 @@ pub struct Fault {
 pub struct FaultList {
     pub count: u8,
     pub fault: [Fault; 192],
+}
+
+/// Prints `L2` for a line, `L2.1` for a pin.
+pub impl fmt::Display for Site as SiteDisplay {
+    ghost shown = { λ site. Some (siteText site) };
+
+    fn fmt<W: fmt::Write>(&self, f: &mut fmt::Formatter<W>) -> fmt::Result {
+        match *self {
+            Site::Stem(line) => write!(f, "L{line}"),
+            Site::Pin { line, pin } => write!(f, "L{line}.{pin}"),
+        }
+    }
+}
+
+/// Prints the site and the stuck value.
+pub impl fmt::Display for Fault as FaultDisplay {
+    ghost shown = { λ fault. Some (faultText fault) };
+
+    fn fmt<W: fmt::Write>(&self, f: &mut fmt::Formatter<W>) -> fmt::Result {
+        let site = self.site;
+        let stuck = if self.stuck { "sa1" } else { "sa0" };
+        write!(f, "{site} {stuck}")
+    }
 }

@@ -1,3 +1,4 @@
+pub mod Bytes
 pub mod Readers
 pub mod GateLaw
 pub mod StartLaw

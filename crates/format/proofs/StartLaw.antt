@@ -1,23 +1,22 @@
 -- The start values of a job: which bytes stand for them, and that the reader takes just those.
-use mathlib.Core.Path.{_≡_, refl, sym, ap, _∙_}
+use mathlib.Core.Path.{_≡_, refl, sym, _∙_}
 use mathlib.Core.Bool.{Bool, true, false}
-use mathlib.Core.List.{List, [], _++_}
+use mathlib.Core.List.{List}
 use mathlib.Core.Logic.{⊎-elim}
 use Prim.Native.Nat.{ℕ, zero, suc, _+_, _-_, _*_, _/_, _%_, _^_, _<_, _≤_, min}
 use native.Mathlib.Omega.{arith}
 use native.Mathlib.Nat.{add-zero, pow-succ', add-suc, mod-eq-of-lt, div-eq-of-lt}
-use lib.Bits.{bitAnd}
+use lib.Bits.{bitAnd, mask-lt}
 use lib.Pow.{pow-mono}
 use lib.ListN.{length, getD, replicate}
-use Rattle.std.proofs.shelf.Lists.{append-nil, length-take-le, length-push, length-replicate, getD-append-left, getD-push, getD-past, ext-getD}
-use Rattle.std.proofs.shelf.Bits.{pow-pos, and-mask, mod-below, div-below, le-div}
+use Rattle.std.proofs.shelf.Lists.{length-take-le, length-push, length-replicate, getD-append-left, getD-push, getD-past, ext-getD}
+use Rattle.std.proofs.shelf.Bits.{pow-pos, and-mask, div-below, le-div}
 use Rattle.std.proofs.shelf.Tests.{true≢false, cases-lt, eqb-true, eq-eqb}
 use Rattle.field.specs.declared.row.Row.the-variants.{Start}
-use Rattle.field.specs.Rows.{rowOf}
 use Rattle.circuit.specs.Gates.{bit}
 use Rattle.format.specs.Reading.{startOf, unpacked}
 use Rattle.format.specs.Written.{StartWritten, StartGiven}
-use Rattle.format.proofs.Readers.{Fits, Admitted, pure-fits, next-fits, row-fits, fits-like}
+use Rattle.format.proofs.Readers.{Fits, Admitted, pure-fits, last-fits, row-fits, fits-like}
 
 -- a number below a power of two has no bits from there on
 bit-past : (b j m : ℕ) → b < 2 ^ m → m ≤ j → bit b j ≡ false
@@ -41,7 +40,7 @@ bits-under b m (suc d) h e = bits-under b m d (bit-down b (m + d) (rw (add-suc m
 
 -- a mask of the lowest m bits leaves just the numbers below that power
 under-mask : (b m : ℕ) → bitAnd b (2 ^ m - 1) ≡ b → b < 2 ^ m
-under-mask b m h = omega (arith, and-mask b m, mod-below b (2 ^ m) (pow-pos m))
+under-mask b m h = omega (arith, mask-lt b m)
 
 -- and the other way round
 mask-under : (b m : ℕ) → b < 2 ^ m → bitAnd b (2 ^ m - 1) ≡ b
@@ -111,20 +110,14 @@ written-unpacked lines start bytes len w =
 -- start values are read just where the bytes stand for them
 pub start-fits : (flag : Bool) (lines end : ℕ) → Fits (startOf flag lines end) (λ start bytes. (length start ≡ lines) × StartGiven flag lines start bytes)
 start-fits false lines end =
-    fits-like (startOf false lines end) (pure-fits (replicate lines false))
+    fits-like (pure-fits (replicate lines false))
     (λ start bytes h. (rw (h .0) (length-replicate lines false), h))
     (λ start bytes h. h .1)
 start-fits true lines end =
-    fits-like (startOf true lines end)
-    (next-fits (rowOf (Start lines) ((lines + 7) / 8) end) _ (row-fits (Start lines) ((lines + 7) / 8) end) (λ bytes. pure-fits (unpacked bytes lines)))
-    (λ start bytes h.
-    let all : bytes ≡ h .value = h .is ∙ ap (λ (t : List ℕ). h .left ++ t) (h .second .1) ∙ append-nil (h .left) ∙ h .first .is in
-    rw (h .second .0, all) (length-unpacked (h .value) lines, written-sound lines (h .value) (h .first .count) (under-admitted lines (h .value) (h .first .admitted))))
-    (λ start bytes h. record {
-      value = bytes;
-      left = bytes;
-      right = [];
-      first = record { count = h .1 .enough; admitted = admitted-under lines bytes (written-under lines start bytes (h .0) (h .1)); is = refl };
-      second = (written-unpacked lines start bytes (h .0) (h .1), refl);
-      is = sym (append-nil bytes);
-    })
+    fits-like (last-fits (row-fits (Start lines) ((lines + 7) / 8) end))
+    (λ start bytes h. rw (h .1, h .2 .is) (length-unpacked (h .0) lines, written-sound lines (h .0) (h .2 .count) (under-admitted lines (h .0) (h .2 .admitted))))
+    (λ start bytes h. (
+      bytes,
+      written-unpacked lines start bytes (h .0) (h .1),
+      record { count = h .1 .enough; admitted = admitted-under lines bytes (written-under lines start bytes (h .0) (h .1)); is = refl },
+    ))

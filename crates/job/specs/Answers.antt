@@ -16,6 +16,6 @@ gives (Ok j) = Ok (described j)
 gives (Err e) = Err e
 
 -- an answer, with the job that was lent as it is then
-abbrev pub answered : {A : Type 0} → Result A CircuitFault → Job → Result Description CircuitFault
+abbrev pub answered : {A E : Type 0} → Result A E → Job → Result Description E
 answered (Ok a) j = Ok (described j)
 answered (Err e) j = Err e

@@ -2,6 +2,7 @@
 ghost use mathlib.Core.Path.{_≡_};
 ghost use mathlib.Core.Bool.{true};
 ghost use Prim.Native.Nat.{ℕ, _<_, _≤_};
+ghost use lib.ListN.{length};
 ghost use Rattle.circuit.specs.Netlists.{faultAt, sited};
 ghost use Rattle.job.specs.BuiltIn.{BuiltIn};
 use circuit::circuit::Circuit;
@@ -15,6 +16,7 @@ pub struct Job {
     circuit: Circuit,
     faults: FaultList,
     ghost some: { (0 < faults .count) × (faults .count ≤ 192) },
+    ghost room: { faults .count ≤ length (faults .fault) },
     ghost placed: { ((n : ℕ) → n < faults .count → sited (circuit .netlist) (faultAt (faults .fault) n .site) ≡ true) },
 }
 
@@ -38,6 +40,7 @@ impl Job {
     // The job of a circuit and faults that it has.
     pub(crate) fn of(circuit: Circuit, faults: FaultList) -> Job
         requires some { ⌜ (0 < faults .count) × (faults .count ≤ 192) ⌝ }
+        requires room { ⌜ faults .count ≤ length (faults .fault) ⌝ }
         requires placed { ⌜ ((n : ℕ) → n < faults .count → sited (circuit .netlist) (faultAt (faults .fault) n .site) ≡ true) ⌝ }
         ensures { λ r. ⌜ (r .circuit ≡ circuit) × (r .faults ≡ faults) ⌝ }
     {

@@ -1,4 +1,4 @@
 // A job: a lawful circuit and the faults to grade.
 pub mod job;
-pub mod made;
+mod made;
 pub mod read;

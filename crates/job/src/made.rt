@@ -13,11 +13,11 @@ use circuit::site::Fault;
 use circuit::site::FaultList;
 use circuit::site::Site;
 
-/// A list in the making: its length, and its faults as far as there is room.
+// A list in the making: its length, and its faults as far as there is room.
 #[derive(Clone, Copy)]
-pub struct Making {
-    pub length: u16,
-    pub fault: [Fault; 192],
+struct Making {
+    length: u16,
+    fault: [Fault; 192],
 }
 
 // One fault more, kept where there is room.
@@ -78,9 +78,8 @@ fn add_gates(making: &mut Making, netlist: &Netlist)
     }
 }
 
-/// The made list of a netlist, or its length where it is above 192.
-/// Public only for the job reader, which has checked what is required here.
-pub fn made_list(netlist: &Netlist) -> Result<FaultList, u16>
+// The made list of a netlist, or its length where it is above 192.
+pub(crate) fn made_list(netlist: &Netlist) -> Result<FaultList, u16>
     requires { ⌜ Lawful (now netlist) ⌝ }
     ensures { λ r. ⌜ Cases r (λ list. (take (list .count) (list .fault) ≡ made (now (netlist .entry))) × (length (made (now (netlist .entry))) ≤ 192) × (list .count ≤ 192)) (λ long. (long ≡ length (made (now (netlist .entry)))) × (192 < long)) ⌝ }
 {

@@ -48,9 +48,8 @@ fn read_fault<'a>(
     Ok((Fault { site, stuck }, rest))
 }
 
-/// The count of the faults, and their records.
-/// Public only for the reader of the whole file.
-pub fn read_faults<'a>(
+// The count of the faults, and their records.
+pub(crate) fn read_faults<'a>(
     s: &'a [u8],
     netlist: &Netlist,
     end: usize,

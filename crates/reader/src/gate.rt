@@ -22,11 +22,11 @@ use field::row::Row;
 use field::row::read_row;
 use refusal::FileFault;
 
-/// The map and the pin count that a gate's record opens with.
+// The map and the pin count that a gate's record opens with.
 #[derive(Clone, Copy)]
-pub struct Opening {
-    pub map: u8,
-    pub pins: u8,
+struct Opening {
+    map: u8,
+    pins: u8,
 }
 
 // A complex gate has at least one pin, a C-element two.
@@ -136,9 +136,8 @@ fn read_function(s: &[u8], opening: Opening, end: usize) -> Result<(Function, &[
     }
 }
 
-/// A gate's record, in a circuit of so many lines.
-/// Public only for the readers above, which are inside a file of `end` bytes.
-pub fn read_gate(s: &[u8], lines: u8, end: usize) -> Result<(Gate, &[u8]), FileFault>
+// A gate's record, in a circuit of so many lines.
+fn read_gate(s: &[u8], lines: u8, end: usize) -> Result<(Gate, &[u8]), FileFault>
     requires { ⌜ length (now s) ≤ end ⌝ }
     ensures is { λ r. ⌜ seenBy trimmedGate r ≡ gateOf lines end (now (s .entry)) ⌝ }
     ensures inside { λ r. ⌜ Inside end r ⌝ }
@@ -155,9 +154,8 @@ pub fn read_gate(s: &[u8], lines: u8, end: usize) -> Result<(Gate, &[u8]), FileF
     Ok((gate, rest))
 }
 
-/// The records of all gates, in a circuit of so many lines.
-/// Public only for the reader of the whole file.
-pub fn read_gates(
+// The records of all gates, in a circuit of so many lines.
+pub(crate) fn read_gates(
     s: &[u8],
     lines: u8,
     gates: u8,

@@ -15,9 +15,9 @@ use field::row::Row;
 use field::row::read_row;
 use refusal::FileFault;
 
-/// The map, the counts, the outputs and the start values.
+// The map, the counts, the outputs and the start values.
 #[derive(Clone, Copy)]
-pub struct Head {
+pub(crate) struct Head {
     pub map: u8,
     pub inputs: u8,
     pub gates: u8,
@@ -57,9 +57,8 @@ fn read_start(
     Ok((unpack(&bytes, lines), rest))
 }
 
-/// The head of a file of `end` bytes.
-/// Public only for the reader of the whole file.
-pub fn read_head(s: &[u8], end: usize) -> Result<(Head, &[u8]), FileFault>
+// The head of a file of `end` bytes.
+pub(crate) fn read_head(s: &[u8], end: usize) -> Result<(Head, &[u8]), FileFault>
     requires { ⌜ length (now s) ≤ end ⌝ }
     ensures is { λ r. ⌜ seenBy headSeen r ≡ headOf end (now (s .entry)) ⌝ }
     ensures inside { λ r. ⌜ Inside end r ⌝ }

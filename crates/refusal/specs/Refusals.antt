@@ -1,5 +1,8 @@
 -- The number, the layer and the place with which each refusal is printed: the one table that every promise cites.
+use mathlib.Core.List.{List, _++_}
 use Prim.Native.Nat.{ℕ}
+use lib.Chars.{codes}
+use Rattle.std.specs.Written.{decimal}
 use Rattle.refusal.specs.declared.FileFault.{FileFault}
 use Rattle.refusal.specs.declared.FileFault.the-variants.{Short, Range, Stray, Nowhere, Overlong}
 use Rattle.refusal.specs.declared.CircuitFault.{CircuitFault}
@@ -51,3 +54,7 @@ placeOf (Oscillation line) = line
 placeOf (Race line) = line
 placeOf (Unknown number) = number
 placeOf (Narrow bytes) = bytes
+
+-- the line that is printed, without its end
+abbrev pub refusalText : GradingFault → List ℕ
+refusalText fault = codes "refused " ++ (decimal (numberOf fault) ++ (codes " layer " ++ (decimal (layerOf fault) ++ (codes " place " ++ decimal (placeOf fault)))))

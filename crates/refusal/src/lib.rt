@@ -1,8 +1,10 @@
 // Why a call turns its input down: three layers, each wrapping the one below.
 ghost use mathlib.Core.Path.{_≡_};
-ghost use Rattle.refusal.specs.Refusals.{numberOf, layerOf, placeOf};
+ghost use Rattle.refusal.specs.Refusals.{numberOf, layerOf, placeOf, refusalText};
+ghost use Rattle.std.specs.declared.option.Option.the-variants.{Some};
 ghost use Rattle.refusal.specs.declared.CircuitFault.the-variants.{File};
 ghost use Rattle.refusal.specs.declared.GradingFault.the-variants.{Circuit};
+use std::fmt;
 
 /// What is wrong with the bytes of a job file; each names an offset in the file.
 #[derive(Clone, Copy, PartialEq, Eq, Debug)]
@@ -121,5 +123,17 @@ impl GradingFault {
             GradingFault::Unknown(number) => number as usize,
             GradingFault::Narrow(bytes) => bytes,
         }
+    }
+}
+
+/// Prints the number, the layer and the place.
+pub impl fmt::Display for GradingFault as GradingFaultDisplay {
+    ghost shown = { λ fault. Some (refusalText fault) };
+
+    fn fmt<W: fmt::Write>(&self, f: &mut fmt::Formatter<W>) -> fmt::Result {
+        let number = self.number();
+        let layer = self.layer();
+        let place = self.place();
+        write!(f, "refused {number} layer {layer} place {place}")
     }
 }

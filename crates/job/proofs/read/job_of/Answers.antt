@@ -35,6 +35,7 @@ of-requires c κs =
     let given = at-rest (c .args .file .now) (c .in-Continue-parts .rest .now) n (listedIn (c .in-Continue-parts .parts .faults)) (listed list) (c .in-Continue-parts .ensures tt .is) (c .if-rest-gt0 .left) (c .in-Continue-faults .ensures tt .1) (c .in-Ok .ensures tt .1) in
     record {
       some = (faults-some (c .args .file .now) n (list .count) (list .fault) given room, few);
+      room = room;
       placed = λ i lt. subst (λ (x : Netlist). sited x (faultAt (list .fault) i .site) ≡ true) (sym (c .in-Ok .ensures tt .0)) (faults-placed (c .args .file .now) n (list .count) (list .fault) given room i lt);
     }
 

@@ -14,7 +14,7 @@ pub fn has(mask: u8, j: u8) -> bool
     requires { ⌜ j < 8 ⌝ }
     ensures { λ r. ⌜ r ≡ bit mask j ⌝ }
 {
-    (mask >> j) & 1 == 1
+    (mask >> j) % 2 == 1
 }
 
 // What pin j reads, inverted where the mask has bit j.

@@ -52,12 +52,20 @@ fn job_of(file: &[u8]) -> Result<Job, CircuitFault>
     }
 }
 
+// Writes the job of a file whole, or leaves the lent one as it was.
+fn write_job(file: &[u8], job: &mut Job) -> Result<(), CircuitFault>
+    ensures answer { λ r. ⌜ answered r (now (job .exit)) ≡ jobOf (now (file .entry)) ⌝ }
+    ensures unchanged { λ r. ⌜ refused r (λ _. now (job .exit) ≡ now (job .entry)) ⌝ }
+{
+    *job = job_of(file)?;
+    Ok(())
+}
+
 /// Reads a job file into a lent job, which is written whole once every check has passed, and is else left as it was.
 pub fn read(file: &[u8], job: &mut Job) -> Result<(), CircuitFault>
     ensures answer { λ r. ⌜ answered r (now (job .exit)) ≡ jobOf (now (file .entry)) ⌝ }
     ensures law { λ r. ⌜ Exactly (now (file .entry)) (answered r (now (job .exit))) ⌝ }
     ensures unchanged { λ r. ⌜ refused r (λ _. now (job .exit) ≡ now (job .entry)) ⌝ }
 {
-    *job = job_of(file)?;
-    Ok(())
+    write_job(file, job)
 }

@@ -36,7 +36,7 @@ impl Draft {
 }
 
 /// Gates that hand line 0 on, after a head that gives no start values.
-pub fn buffers(head: &[u8], gates: u8) -> Draft {
+pub(crate) fn buffers(head: &[u8], gates: u8) -> Draft {
     let mut file = Draft::new();
     file.put(head);
     for _ in 0..gates {
@@ -46,7 +46,7 @@ pub fn buffers(head: &[u8], gates: u8) -> Draft {
 }
 
 /// 8 inputs and so many C-elements, all of 8 pins but for the last, after a map and start values.
-pub fn c_elements(map: u8, start: &[u8], gates: u8, last_pins: u8) -> Draft {
+pub(crate) fn c_elements(map: u8, start: &[u8], gates: u8, last_pins: u8) -> Draft {
     let mut file = Draft::new();
     file.put(&[map, 8, gates, 1, 8]);
     file.put(start);
@@ -61,7 +61,7 @@ pub fn c_elements(map: u8, start: &[u8], gates: u8, last_pins: u8) -> Draft {
 }
 
 /// The longest job there is: every part is given, and every count is at its most.
-pub fn fullest() -> Draft {
+pub(crate) fn fullest() -> Draft {
     let mut file = Draft::new();
     file.put(&[3, 8, 40, 8, 40, 41, 42, 43, 44, 45, 46, 47]);
     file.put(&[0; 6]);

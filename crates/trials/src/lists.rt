@@ -83,7 +83,7 @@ const NAMED: [Fault; 5] = [
 ];
 
 /// Checks that a list has these faults and no others.
-pub fn check_list(list: &FaultList, faults: &[Fault]) -> Result<(), Fail> {
+pub(crate) fn check_list(list: &FaultList, faults: &[Fault]) -> Result<(), Fail> {
     check_eq(list.count as usize, faults.len())?;
     let given = list.fault.get(0..faults.len()).ok_or("no such list")?;
     check_eq(given, faults)

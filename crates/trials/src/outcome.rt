@@ -8,16 +8,16 @@ use std::test::*;
 
 /// A refusal, or how many inputs, gates, outputs and faults the job has that was read.
 #[derive(Clone, Copy, PartialEq, Eq, Debug)]
-pub enum Outcome {
+pub(crate) enum Outcome {
     Refused(CircuitFault),
     Accepted(u8, u8, u8, u8),
 }
 
 /// A name, a file and what reading it gives.
-pub type Case = (&'static str, &'static [u8], Outcome);
+pub(crate) type Case = (&'static str, &'static [u8], Outcome);
 
 /// The job of a file that is accepted.
-pub fn accepted(file: &[u8]) -> Result<Job, Fail> {
+pub(crate) fn accepted(file: &[u8]) -> Result<Job, Fail> {
     let mut job = Job::built_in();
     read(file, &mut job)?;
     Ok(job)
@@ -31,7 +31,7 @@ fn counts(job: &Job) -> Outcome {
 }
 
 /// Checks the counts of a job.
-pub fn check_counts(job: &Job, expected: Outcome) -> Result<(), Fail> {
+pub(crate) fn check_counts(job: &Job, expected: Outcome) -> Result<(), Fail> {
     check_eq(counts(job), expected)
 }
 
@@ -45,12 +45,12 @@ fn tried(file: &[u8]) -> Outcome {
 }
 
 /// Tries one file.
-pub fn try_one(file: &[u8], expected: Outcome) -> Result<(), Fail> {
+pub(crate) fn try_one(file: &[u8], expected: Outcome) -> Result<(), Fail> {
     check_eq(tried(file), expected)
 }
 
 /// Tries every file of a table.
-pub fn try_all(cases: &[Case]) -> Result<(), Fail> {
+pub(crate) fn try_all(cases: &[Case]) -> Result<(), Fail> {
     for (name, file, expected) in cases {
         try_one(file, *expected).note(*name)?;
     }

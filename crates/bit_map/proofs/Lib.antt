@@ -1,0 +1,3 @@
+mod Digits
+mod Lowest
+mod Rows

@@ -1,0 +1,2 @@
+pub mod Tally
+mod Walked

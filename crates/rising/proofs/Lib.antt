@@ -1,0 +1,4 @@
+pub mod Tally
+pub mod Rising
+pub mod Walk
+pub mod Merge

@@ -18,7 +18,9 @@ impl BitMap {
     pub fn empty() -> BitMap
         ensures { λ r. ⌜ ((k : ℕ) → inWords (r .words) k ≡ false) ⌝ }
     {
-        BitMap { words: [0; 3] }
+        BitMap {
+            words: words::none(),
+        }
     }
 
     /// The set of the numbers that three words hold: number n by bit n % 64 of word n / 64.

@@ -7,6 +7,13 @@ ghost use Rattle.std.specs.Orderings.{Decides};
 ghost use Rattle.fault_set.specs.Members.{tally};
 ghost use Rattle.bit_map.specs.Bits.{bit, inWords};
 
+// No number.
+pub(crate) fn none() -> [u64; 3]
+    ensures { λ r. ⌜ ((k : ℕ) → inWords r k ≡ false) ⌝ }
+{
+    [0; 3]
+}
+
 // Sets the bit of n.
 pub(crate) fn insert(words: &mut [u64; 3], n: u8)
     requires { ⌜ n < 192 ⌝ }

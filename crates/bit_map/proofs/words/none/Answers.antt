@@ -1,5 +1,5 @@
 use Rattle.bit_map.proofs.Rows.{in-none}
-use Rattle.bit_map.proofs.map.BitMap.empty.Needs as need
+use Rattle.bit_map.proofs.words.none.Needs as need
 
 pub returns : need.returns
 returns c = in-none

@@ -11,6 +11,7 @@ use lib.ListN.{getD, length, set, length-set}
 use lib.Seq.{getD-set-same, getD-set-other}
 use Rattle.std.proofs.shelf.Tests.{cases-lt, cases-eq, lt-ltb, eq-eqb, ne-eqb, and-from, or-right}
 use Rattle.rising.specs.Rows.{follows, run, reach, among, listed, seen}
+use Rattle.rising.proofs.Tally.{or-no}
 use Rattle.rising.proofs.Rising.{Rising, rising-run, not-among, among-more, listed-low}
 use Rattle.rising.proofs.Walk.{Passed, passed-more, seen-at, seen-above, seen-gap, seen-only, reach-le}
 
@@ -81,10 +82,6 @@ module _ (at : List ℕ) (o v n : ℕ) (f : ℕ → Bool) (c : Kept at o v f) (h
             (cases-eq k n))
             (cases-lt k v);
       }
-    where
-      or-no : (b : Bool) → (b || false) ≡ b
-      or-no true = refl
-      or-no false = refl
 
   kept-pass : f n ≡ false → Kept at o (n + 1) f
   kept-pass miss = record {

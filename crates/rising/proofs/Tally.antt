@@ -9,6 +9,11 @@ use Rattle.std.proofs.shelf.Tests.{cases-eq, ne-eqb, eq-eqb, or-right}
 use Rattle.fault_set.specs.Members.{one, tally}
 use Rattle.fault_set.proofs.Tally.{tally-same}
 
+-- nothing more
+pub or-no : (b : Bool) → (b || false) ≡ b
+or-no true = refl
+or-no false = refl
+
 -- where nothing is in
 pub tally-empty : (n : ℕ) → tally (λ k. false) n ≡ 0
 unfolding tally
@@ -29,7 +34,3 @@ tally-plus f x (suc n) h new =
     (λ (ne : x ≡ n → ⊥).
     ap₂ (λ (t : ℕ) (b : Bool). t + one b) (tally-plus f x n (omega arith) new) (ap (λ (b : Bool). f n || b) (ne-eqb x n ne) ∙ or-no (f n)) ∙ omega arith)
     (cases-eq x n)
-  where
-    or-no : (b : Bool) → (b || false) ≡ b
-    or-no true = refl
-    or-no false = refl

@@ -1,4 +1,6 @@
 // Circuits of complex gates and C-elements, and where a fault sits in one.
+#![tactic(auto)]
+
 pub mod chip;
 pub mod circuit;
 pub mod drive;

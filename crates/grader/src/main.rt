@@ -1,4 +1,6 @@
 // The grader: reads its input from standard input, and prints what comes of it.
+#![tactic(auto)]
+
 ghost use Rattle.std.specs.Prelude.{◌≤◌, length, IfOk};
 
 use reply::text::reply;

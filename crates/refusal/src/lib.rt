@@ -1,4 +1,6 @@
 // Why a call turns its input down: three layers, each wrapping the one below.
+#![tactic(auto)]
+
 ghost use Rattle.std.specs.Prelude.{◌≡◌, Some};
 ghost use Rattle.refusal.specs.Refusals.{number_of, layer_of, place_of, refusal_text};
 ghost use Rattle.refusal.specs.declared.CircuitFault.TheVariants.{File};

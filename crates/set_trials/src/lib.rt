@@ -1,4 +1,6 @@
 // Trials of fault sets: the same tables for every kind.
+#![tactic(auto)]
+
 #[cfg(test)]
 mod cases;
 #[cfg(test)]

@@ -1,4 +1,6 @@
 // The faults of a job by their sites, so that the circuits that a site concerns are found without a walk over all faults.
+#![tactic(auto)]
+
 ghost use Rattle.std.specs.Prelude.{◌≡◌, ℕ, ◌+◌, ◌<◌, ◌≤◌, true};
 ghost use Rattle.site_index.specs.Sites.{fault_of, sits_at, on_table, place, place_of, Leads, Firsts, Nexts};
 

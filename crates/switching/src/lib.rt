@@ -1,4 +1,6 @@
 // The theory under the grades: Eichelberger's procedure on one chip, and free switching.
+#![tactic(auto)]
+
 ghost use Rattle.std.specs.Prelude.{◌≡◌};
 ghost use Rattle.switching.specs.Phases.{taken};
 ghost use Rattle.switching.specs.Examples.{ExamplesHold, FewerTurnsFail};

@@ -1,4 +1,6 @@
 // The values of a line, and AND, OR and NOT on them.
+#![tactic(auto)]
+
 ghost use Rattle.std.specs.Prelude.{◌≡◌};
 ghost use Rattle.ternary.specs.Values.{of, and₃, or₃, not₃, join};
 

@@ -1,4 +1,6 @@
 // Trials of the job reader and of the text that answers an input: tables of cases, each with what must come of it.
+#![tactic(auto)]
+
 #[cfg(test)]
 mod accepted;
 #[cfg(test)]

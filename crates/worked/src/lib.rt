@@ -1,4 +1,6 @@
 // Worked examples of the grading's rules, and the rule for lists through a gate.
+#![tactic(auto)]
+
 ghost use Rattle.worked.specs.Examples.{ExamplesHold};
 ghost use Rattle.worked.specs.Lists.{ListsThroughAGate};
 

@@ -6,4 +6,4 @@ use Rattle.circuit.proofs.drive.c_element_of.Given as goal
 
 abbrev pub invariant-loop-j : goal.invariant-loop-j
 invariant-loop-j l =
-    (l.every ≡ all two_valued (pins_of l.gate l.values) l.inverted l.j) × (l.held ≡ hold two_valued (pins_of l.gate l.values) l.own_val l.inverted l.j)
+    (l.every ≡ all two_valued (pins_of l.gate l.values) l.inverted l.j) × (l.held ≡ hold two_valued (pins_of l.gate l.values) l.own l.inverted l.j)

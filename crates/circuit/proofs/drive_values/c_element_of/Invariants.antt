@@ -6,4 +6,4 @@ use Rattle.circuit.proofs.drive_values.c_element_of.Given as goal
 
 abbrev pub invariant-loop-j : goal.invariant-loop-j
 invariant-loop-j l =
-    (l.every ≡ all three_valued (value_at l.pins) l.inverted l.j) × (l.held ≡ hold three_valued (value_at l.pins) l.own_val l.inverted l.j)
+    (l.every ≡ all three_valued (value_at l.pins) l.inverted l.j) × (l.held ≡ hold three_valued (value_at l.pins) l.own l.inverted l.j)

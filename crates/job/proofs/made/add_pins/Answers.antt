@@ -5,6 +5,6 @@ use Rattle.job.proofs.made.add_pins.Goals as goal
 
 pub loop-pin-preserved : goal.loop-pin-preserved
 loop-pin-preserved c = (
-  omega (arith, c.loop-pin.invariant.0, c.add-both.ensures.two),
-  λ faults h. rw (add-one c.loop-pin.pin) (subst (Holds c.add-both.new.making) (append_assoc faults (pins_of c.args.line c.loop-pin.pin) _) (c.add-both.ensures.holds (faults ++ pins_of c.args.line c.loop-pin.pin) (c.loop-pin.invariant.1 faults h))),
+  omega (arith, c.loop-pin.invariant.0, c.add_both.ensures.two),
+  λ faults h. rw (add-one c.loop-pin.pin) (subst (Holds c.add_both.new.making) (append_assoc faults (pins_of c.args.line c.loop-pin.pin) _) (c.add_both.ensures.holds (faults ++ pins_of c.args.line c.loop-pin.pin) (c.loop-pin.invariant.1 faults h))),
 )

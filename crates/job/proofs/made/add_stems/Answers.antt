@@ -3,4 +3,4 @@ use Rattle.format.specs.Descriptions.{stems}
 use Rattle.job.proofs.made.add_stems.Goals as goal
 
 pub loop-line-preserved : goal.loop-line-preserved
-loop-line-preserved c = (omega (arith, c.loop-line.invariant.0, c.add-both.ensures.two), rw (add-one c.loop-line.line) (c.add-both.ensures.holds (stems c.loop-line.line) c.loop-line.invariant.1))
+loop-line-preserved c = (omega (arith, c.loop-line.invariant.0, c.add_both.ensures.two), rw (add-one c.loop-line.line) (c.add_both.ensures.holds (stems c.loop-line.line) c.loop-line.invariant.1))

@@ -10,22 +10,22 @@ use Rattle.reader.specs.Parts.{listed, listed_in}
 use Rattle.job.proofs.Whole.{netlist_lawful, at_rest, not_at_rest, faults_some, faults_placed}
 use Rattle.job.proofs.read.job_of.Goals as goal
 
-pub faults-of-requires : goal.faults-of-requires
-faults-of-requires c = record {
-  lawful = netlist_lawful c.args.file.now c.in-ok-parts.rest.now c.in-ok-parts.parts.netlist (listed_in c.in-ok-parts.parts.faults) c.in-ok-parts.ensures.is;
-  few = c.in-ok-parts.ensures.few;
+pub faults_of-requires : goal.faults_of-requires
+faults_of-requires c = record {
+  lawful = netlist_lawful c.args.file.now c.in_ok-parts.rest.now c.in_ok-parts.parts.netlist (listed_in c.in_ok-parts.parts.faults) c.in_ok-parts.ensures.is;
+  few = c.in_ok-parts.ensures.few;
 }
 
-pub at-rest-requires : goal.at-rest-requires
-at-rest-requires c = netlist_lawful c.args.file.now c.in-ok-parts.rest.now c.in-ok-parts.parts.netlist (listed_in c.in-ok-parts.parts.faults) c.in-ok-parts.ensures.is
+pub at_rest-requires : goal.at_rest-requires
+at_rest-requires c = netlist_lawful c.args.file.now c.in_ok-parts.rest.now c.in_ok-parts.parts.netlist (listed_in c.in_ok-parts.parts.faults) c.in_ok-parts.ensures.is
 
 pub of-requires : goal.of-requires
 of-requires c =
-    let n = c.in-ok-parts.parts.netlist in
-    let list = c.in-ok-faults.faults in
-    let few : list.count ≤ 192 = c.in-ok-faults.ensures.0 in
+    let n = c.in_ok-parts.parts.netlist in
+    let list = c.in_ok-faults.faults in
+    let few : list.count ≤ 192 = c.in_ok-faults.ensures.0 in
     let room : list.count ≤ length list.fault = search rules in
-    let given = at_rest c.args.file.now c.in-ok-parts.rest.now n (listed_in c.in-ok-parts.parts.faults) (listed list) c.in-ok-parts.ensures.is c.if-rest-gt0.false c.in-ok-faults.ensures.1 c.in-Ok.ensures.1 in
+    let given = at_rest c.args.file.now c.in_ok-parts.rest.now n (listed_in c.in_ok-parts.parts.faults) (listed list) c.in_ok-parts.ensures.is c.if-rest-gt0.false c.in_ok-faults.ensures.1 c.in-Ok.ensures.1 in
     record {
       some = (faults_some c.args.file.now n list.count list.fault given room, few);
       room = room;
@@ -38,9 +38,9 @@ same_job e f = rw (e, f)
 pub returns-in-Ok : goal.returns-in-Ok
 returns-in-Ok c =
     same_job (ap (λ (x : Circuit). x.netlist) c.of.ensures.0 ∙ c.in-Ok.ensures.0) c.of.ensures.1
-    ∙ sym (at_rest c.args.file.now c.in-ok-parts.rest.now c.in-ok-parts.parts.netlist (listed_in c.in-ok-parts.parts.faults) (listed c.in-ok-faults.faults) c.in-ok-parts.ensures.is c.if-rest-gt0.false c.in-ok-faults.ensures.1 c.in-Ok.ensures.1)
+    ∙ sym (at_rest c.args.file.now c.in_ok-parts.rest.now c.in_ok-parts.parts.netlist (listed_in c.in_ok-parts.parts.faults) (listed c.in_ok-faults.faults) c.in_ok-parts.ensures.is c.if-rest-gt0.false c.in_ok-faults.ensures.1 c.in-Ok.ensures.1)
 
 pub returns-in-Err : goal.returns-in-Err
 returns-in-Err c =
-    not_at_rest c.args.file.now c.in-ok-parts.rest.now c.in-ok-parts.parts.netlist (listed_in c.in-ok-parts.parts.faults) (listed c.in-ok-faults.faults) c.in-ok-parts.ensures.is c.if-rest-gt0.false c.in-ok-faults.ensures.1
+    not_at_rest c.args.file.now c.in_ok-parts.rest.now c.in_ok-parts.parts.netlist (listed_in c.in_ok-parts.parts.faults) (listed c.in_ok-faults.faults) c.in_ok-parts.ensures.is c.if-rest-gt0.false c.in_ok-faults.ensures.1
     c.in-Err.line c.in-Err.ensures

@@ -5,7 +5,7 @@ use Rattle.job.proofs.read.read.Goals as goal
 
 pub returns : goal.returns
 returns c = record {
-  answer = c.write-job.ensures.answer;
-  law = subst (Exactly c.args.file.now) (sym c.write-job.ensures.answer) (exactly c.args.file.now);
-  unchanged = c.write-job.ensures.unchanged;
+  answer = c.write_job.ensures.answer;
+  law = subst (Exactly c.args.file.now) (sym c.write_job.ensures.answer) (exactly c.args.file.now);
+  unchanged = c.write_job.ensures.unchanged;
 }

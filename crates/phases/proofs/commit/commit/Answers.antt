@@ -16,14 +16,14 @@ loop-k-preserved g c =
     let P = c.inputs-inputs.result in
     let read = read_by (changed_at c.args.changes.now.line) c.args.circuit.now.netlist in
     let first = c.args.lines.now in
-    elim c.if-read-by.branch [
+    elim c.if-read_by.branch [
       | then-read-by w ↦ subst₂ (λ (ls : List (Line g.row.S.Denot)) (nx : Changes). Committed m P read first (c.loop-k.k + 1) ls nx.line nx.idle) (sym w.lines-is) (sym w.next-is)
           (one_committed m P read first c.loop-k.k c.loop-k.lines c.loop-k.next.line c.loop-k.next.idle c.loop-k.invariant
-          w.commit-line-same.new.lines w.note.new.self.line w.note.new.self.idle w.commit-line-same.result
-          (sym c.read-by.ensures ∙ w.if-read-by.true) (omega (arith, c.inputs-inputs.ensures, c.gates-k-end.ensures)) (omega arith)
-          w.commit-line-same.ensures.rows w.commit-line-same.ensures.same w.note.ensures.here w.note.ensures.others w.note.ensures.idle)
+          w.commit_line-same.new.lines w.note.new.self.line w.note.new.self.idle w.commit_line-same.result
+          (sym c.read_by.ensures ∙ w.if-read_by.true) (omega (arith, c.inputs-inputs.ensures, c.gates-k-end.ensures)) (omega arith)
+          w.commit_line-same.ensures.rows w.commit_line-same.ensures.same w.note.ensures.here w.note.ensures.others w.note.ensures.idle)
       | else-read-by w ↦ subst₂ (λ (ls : List (Line g.row.S.Denot)) (nx : Changes). Committed m P read first (c.loop-k.k + 1) ls nx.line nx.idle) (sym w.lines-is) (sym w.next-is)
-          (none_committed m P read first c.loop-k.k c.loop-k.lines c.loop-k.next.line c.loop-k.next.idle c.loop-k.invariant (sym c.read-by.ensures ∙ w.if-read-by.false))
+          (none_committed m P read first c.loop-k.k c.loop-k.lines c.loop-k.next.line c.loop-k.next.idle c.loop-k.invariant (sym c.read_by.ensures ∙ w.if-read_by.false))
     ]
 
 pub returns : goal.returns

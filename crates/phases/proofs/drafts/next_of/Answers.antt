@@ -16,8 +16,8 @@ returns-in-Spread g c = λ n.
     let old = held_at m rows n (c.args.circuit.now.netlist.inputs + c.args.k) in
     let A = values_of m c.args.circuit.now c.args.index.now.list c.args.phase rows n in
     let to = target (numbered c.args.circuit.now c.args.index.now.list n) A c.args.k in
-    c.join-in.ensures n
-    ∙ ap₂ joined (c.held-next.ensures n ∙ ap (λ (P : ℕ). held_at m rows n (P + c.args.k)) c.inputs.ensures ∙ held_tracks m rows n (c.args.circuit.now.netlist.inputs + c.args.k)) (c.target-of-target.ensures.faulty n)
+    c.join_in.ensures n
+    ∙ ap₂ joined (c.held-next.ensures n ∙ ap (λ (P : ℕ). held_at m rows n (P + c.args.k)) c.inputs.ensures ∙ held_tracks m rows n (c.args.circuit.now.netlist.inputs + c.args.k)) (c.target_of-target.ensures.faulty n)
     ∙ joined_tracks (value old) to
     ∙ ap (λ (p : Phase). tracks (taken p (value old) to)) (sym c.in-Spread.is)
 
@@ -25,4 +25,4 @@ pub returns-in-Settle : goal.returns-in-Settle
 returns-in-Settle g c = λ n.
     let A = values_of g.S.FaultSet.member c.args.circuit.now c.args.index.now.list c.args.phase c.args.lines.now n in
     let to = target (numbered c.args.circuit.now c.args.index.now.list n) A c.args.k in
-    c.target-of-target.ensures.faulty n ∙ ap (λ (p : Phase). tracks (taken p (A.gate c.args.k) to)) (sym c.in-Settle.is)
+    c.target_of-target.ensures.faulty n ∙ ap (λ (p : Phase). tracks (taken p (A.gate c.args.k) to)) (sym c.in-Settle.is)

@@ -23,17 +23,17 @@ loop-k-preserved g c =
     let first = c.args.lines.now in
     let v = next_of m c.args.circuit.now c.args.index.now.list c.args.phase first in
     let same = reading_same m c.args.circuit.now.netlist.inputs c.loop-k.lines first c.loop-k.invariant.held in
-    elim c.if-read-by.branch [
+    elim c.if-read_by.branch [
       | then-read-by w ↦ subst (λ (ls : List (Line g.row.S.Denot)). Drafted m P read first v (c.loop-k.k + 1) ls) (sym w.lines-is)
-          (one_drafted m P read first v c.loop-k.k c.loop-k.lines c.loop-k.invariant w.put-draft.new.lines w.next-of-next.result
-          (sym c.read-by.ensures ∙ w.if-read-by.true) (omega (arith, c.inputs-inputs.ensures, c.gates-k-end.ensures, c.requires.rows.room)) w.put-draft.ensures
-          (λ n. w.next-of-next.ensures n ∙ ap (λ (A : Lines Value). tracks (taken c.args.phase (A.gate c.loop-k.k) (target (numbered c.args.circuit.now c.args.index.now.list n) A c.loop-k.k))) (same n)))
+          (one_drafted m P read first v c.loop-k.k c.loop-k.lines c.loop-k.invariant w.put_draft.new.lines w.next_of-next.result
+          (sym c.read_by.ensures ∙ w.if-read_by.true) (omega (arith, c.inputs-inputs.ensures, c.gates-k-end.ensures, c.requires.rows.room)) w.put_draft.ensures
+          (λ n. w.next_of-next.ensures n ∙ ap (λ (A : Lines Value). tracks (taken c.args.phase (A.gate c.loop-k.k) (target (numbered c.args.circuit.now c.args.index.now.list n) A c.loop-k.k))) (same n)))
       | else-read-by w ↦ subst (λ (ls : List (Line g.row.S.Denot)). Drafted m P read first v (c.loop-k.k + 1) ls) (sym w.lines-is)
-          (none_drafted m P read first v c.loop-k.k c.loop-k.lines c.loop-k.invariant (sym c.read-by.ensures ∙ w.if-read-by.false))
+          (none_drafted m P read first v c.loop-k.k c.loop-k.lines c.loop-k.invariant (sym c.read_by.ensures ∙ w.if-read_by.false))
     ]
 
-pub next-of-next-requires : goal.next-of-next-requires
-next-of-next-requires g c = record {
+pub next_of-next-requires : goal.next_of-next-requires
+next_of-next-requires g c = record {
   rows = readable_same g.S.FaultSet.member Whole _ c.loop-k.lines c.args.lines.now c.loop-k.invariant.held (omega arith) c.requires.rows;
   gated = omega (arith, c.gates-k-end.ensures);
 }

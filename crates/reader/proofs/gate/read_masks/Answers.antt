@@ -9,6 +9,6 @@ returns-then-not-has c = record {
 
 pub returns : goal.returns
 returns c = record {
-  is = masks_present _ c.args.used c.args.products c.args.end c.args.s.now _ c.read-row.ensures.is c.if-not-has.ensures;
-  inside = c.read-row.ensures.inside;
+  is = masks_present _ c.args.used c.args.products c.args.end c.args.s.now _ c.read_row.ensures.is c.if-not-has.ensures;
+  inside = c.read_row.ensures.inside;
 }

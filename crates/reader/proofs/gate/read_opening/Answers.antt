@@ -10,6 +10,6 @@ returns-else-not-admits-3 c = record {
   is =
       rw (take_rest c.args.s.now 2)
       (sym (opening_taken c.args.end c.args.s.now (omega (arith, ltb-false)) (sym c.if-not-admits-2.ensures)
-      (ap (λ (n : ℕ). admits (Count n 8) (get_or c.args.s.now 1 0)) (sym c.least-pins.ensures) ∙ sym c.if-not-admits-3.ensures)));
+      (ap (λ (n : ℕ). admits (Count n 8) (get_or c.args.s.now 1 0)) (sym c.least_pins.ensures) ∙ sym c.if-not-admits-3.ensures)));
   inside = rw (take_rest c.args.s.now 2, length-drop 2 c.args.s.now) (omega (arith, c.requires));
 }

@@ -26,6 +26,6 @@ returns-then-not-given c = record { is = none c.args.lines c.args.end c.args.s.n
 
 pub returns : goal.returns
 returns c = record {
-  is = some c.args.lines c.args.end c.args.s.now c.in-ok-bytes.rest.now c.in-ok-bytes.bytes _ c.args.given c.if-not-given.false c.in-ok-bytes.ensures.is c.unpack.ensures;
-  inside = c.in-ok-bytes.ensures.inside;
+  is = some c.args.lines c.args.end c.args.s.now c.in_ok-bytes.rest.now c.in_ok-bytes.bytes _ c.args.given c.if-not-given.false c.in_ok-bytes.ensures.is c.unpack.ensures;
+  inside = c.in_ok-bytes.ensures.inside;
 }

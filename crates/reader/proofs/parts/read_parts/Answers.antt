@@ -24,31 +24,31 @@ module _ (end : ℕ) (file t u : List ℕ) (h : Head) (gs : List Gate) (e₁ : O
 together : (n : Netlist) (h : Head) → h.inputs ≡ n.inputs → h.gates ≡ n.gates → h.output ≡ take n.outputs n.output → h.start ≡ take (n.inputs + n.gates) n.start → n.outputs ≤ length n.output → trimmed n ≡ netlist_of h (map trimmed_gate (take n.gates n.gate))
 together n h a b o s l = rw (a, b, o, s, length-take-le n.outputs n.output l)
 
-pub returns-in-err-list : goal.returns-in-err-list
-returns-in-err-list c =
-    let p = err_from_is_err_and c.from-residual-in-err-list.result c.from-residual-in-err-list.ensures.1 in
-    let h = c.in-ok-head.head in
+pub returns-in_err-list : goal.returns-in_err-list
+returns-in_err-list c =
+    let p = err_from_is_err_and c.from-residual-in_err-list.result c.from-residual-in_err-list.ensures.1 in
+    let h = c.in_ok-head.head in
     rw (p.1, p.2)
     (record {
       is =
-          refused (length c.args.file.now) c.args.file.now c.in-ok-head.rest.now c.in-ok-gate.rest.now (head_seen h) (map trimmed_gate (take h.gates c.in-ok-gate.gate))
-          c.in-ok-head.ensures.is c.in-ok-gate.ensures.is c.if-not-has.ensures c.in-err-list.field-0.0
-          (c.in-err-list.ensures.is ∙ sym (faults_same h.inputs h.gates (length c.args.file.now) c.in-ok-gate.gate c.in-ok-gate.rest.now));
+          refused (length c.args.file.now) c.args.file.now c.in_ok-head.rest.now c.in_ok-gate.rest.now (head_seen h) (map trimmed_gate (take h.gates c.in_ok-gate.gate))
+          c.in_ok-head.ensures.is c.in_ok-gate.ensures.is c.if-not-has.ensures c.in_err-list.field-0.0
+          (c.in_err-list.ensures.is ∙ sym (faults_same h.inputs h.gates (length c.args.file.now) c.in_ok-gate.gate c.in_ok-gate.rest.now));
       inside = tt;
       few = tt;
     })
 
 pub returns : goal.returns
 returns c =
-    let h = c.in-ok-head.head in
-    let n : Netlist = record { inputs = h.inputs; gates = h.gates; gate = c.in-ok-gate.gate; outputs = h.outputs; output = h.output; start = h.start } in
+    let h = c.in_ok-head.head in
+    let n : Netlist = record { inputs = h.inputs; gates = h.gates; gate = c.in_ok-gate.gate; outputs = h.outputs; output = h.output; start = h.start } in
     let l : h.outputs ≤ length h.output = search rules in
     record {
       is =
-          read (length c.args.file.now) c.args.file.now c.in-ok-head.rest.now c.in-ok-gate.rest.now (head_seen h) (map trimmed_gate (take h.gates c.in-ok-gate.gate))
-          c.in-ok-head.ensures.is c.in-ok-gate.ensures.is c.if-not-has.ensures c.in-ok-list.rest.now _ (trimmed n)
-          (c.in-ok-list.ensures.is ∙ sym (faults_same h.inputs h.gates (length c.args.file.now) c.in-ok-gate.gate c.in-ok-gate.rest.now))
+          read (length c.args.file.now) c.args.file.now c.in_ok-head.rest.now c.in_ok-gate.rest.now (head_seen h) (map trimmed_gate (take h.gates c.in_ok-gate.gate))
+          c.in_ok-head.ensures.is c.in_ok-gate.ensures.is c.if-not-has.ensures c.in_ok-list.rest.now _ (trimmed n)
+          (c.in_ok-list.ensures.is ∙ sym (faults_same h.inputs h.gates (length c.args.file.now) c.in_ok-gate.gate c.in_ok-gate.rest.now))
           (together n (head_seen h) refl refl refl refl l);
-      inside = c.in-ok-list.ensures.inside;
-      few = c.in-ok-list.ensures.few;
+      inside = c.in_ok-list.ensures.inside;
+      few = c.in_ok-list.ensures.few;
     }

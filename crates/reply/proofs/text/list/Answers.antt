@@ -26,7 +26,7 @@ whole n faults count l = rw (length-take-le count faults l) (ap (λ (t : List �
 
 pub loop-n-preserved : goal.loop-n-preserved
 loop-n-preserved c =
-    more _ _ _ c.args.job.now.faults.fault c.loop-n.n _ c.loop-n.invariant c.in-ok-add-line.ensures (ap (λ (l : FaultList). fault_at l.fault c.loop-n.n) c.faults-faults.ensures)
+    more _ _ _ c.args.job.now.faults.fault c.loop-n.n _ c.loop-n.invariant c.in_ok-add_line.ensures (ap (λ (l : FaultList). fault_at l.fault c.loop-n.n) c.faults-faults.ensures)
 
 pub returns : goal.returns
 returns c =

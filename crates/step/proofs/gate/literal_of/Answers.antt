@@ -5,7 +5,7 @@ use Rattle.step.proofs.gate.literal_of.Goals as goal
 
 pub returns-then-has : goal.returns-then-has
 returns-then-has g c = λ n.
-    c.inverted.ensures n ∙ ap by_tracks.invert (c.pin-of-pin.ensures n) ∙ sym (literal_by by_tracks _ _ _ (sym c.has.ensures ∙ c.if-has.true))
+    c.inverted.ensures n ∙ ap by_tracks.invert (c.pin_of-pin.ensures n) ∙ sym (literal_by by_tracks _ _ _ (sym c.has.ensures ∙ c.if-has.true))
 
 pub returns-else-has : goal.returns-else-has
-returns-else-has g c = λ n. c.pin-of-pin.ensures n ∙ sym (literal_by by_tracks _ _ _ (sym c.has.ensures ∙ c.if-has.false))
+returns-else-has g c = λ n. c.pin_of-pin.ensures n ∙ sym (literal_by by_tracks _ _ _ (sym c.has.ensures ∙ c.if-has.false))

@@ -18,7 +18,7 @@ loop-j-preserved g c = λ n.
     let terms = c.args.terms.now in
     let more = product_more by_tracks pins (get_or terms.used c.args.p 0) (get_or terms.inverted c.args.p 0) c.loop-j.j in
     elim c.if-has.branch [
-      | then-has w ↦ (ap (λ t. answers m t n) w.all-is ∙ w.and-in.ensures n ∙ ap₂ by_tracks.both (c.loop-j.invariant n) (w.literal-of-part.ensures n) ∙ sym (more _ (sym c.has.ensures ∙ w.if-has.true)))
+      | then-has w ↦ (ap (λ t. answers m t n) w.all-is ∙ w.and_in.ensures n ∙ ap₂ by_tracks.both (c.loop-j.invariant n) (w.literal_of-part.ensures n) ∙ sym (more _ (sym c.has.ensures ∙ w.if-has.true)))
       | else-has w ↦ (ap (λ t. answers m t n) w.all-is ∙ c.loop-j.invariant n ∙ sym (more _ (sym c.has.ensures ∙ w.if-has.false)))
     ]
 

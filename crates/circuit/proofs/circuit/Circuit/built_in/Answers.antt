@@ -20,7 +20,7 @@ both C P e z k j h = two C P e z k j h.0 h.1
 none : (P : ℕ → Type 0) → (i : ℕ) → i + 1 < 1 → P i
 none P i h = absurd (omega arith)
 
-pub invariant-of-result : goal.invariant-of-result
+pub invariant_of-result : goal.invariant_of-result
 unfolding literal driven
-invariant-of-result c =
+invariant_of-result c =
     ((lit< tt, lit≤ tt), ((lit< tt, lit≤ tt), ((lit< tt, lit≤ tt), (one _ (lit≤ tt, lit≤ tt), (two _ _ refl (lit< tt), (one _ (lit< tt, lit≤ tt), (two _ _ refl (lit< tt), (two _ _ refl (lit< tt), (both _ _ refl refl, (one _ (lit≤ tt, lit< tt), (none _, (one _ refl, tt))))))))))))

@@ -14,6 +14,6 @@ by_function changed n m k own r f e is o q =
 
 pub returns : goal.returns
 returns c = elim c.match-gate.branch [
-  | in-Complex w ↦ by_function (changed_at c.args.self.now.line) _ _ c.args.k _ _ _ c.netlist-netlist.ensures w.in-Complex.is w.own-is c.read-by-pins.ensures
-  | in-CElement w ↦ by_function (changed_at c.args.self.now.line) _ _ c.args.k _ _ _ c.netlist-netlist.ensures w.in-CElement.is w.own-is c.read-by-pins.ensures
+  | in-Complex w ↦ by_function (changed_at c.args.self.now.line) _ _ c.args.k _ _ _ c.netlist-netlist.ensures w.in-Complex.is w.own-is c.read_by_pins.ensures
+  | in-CElement w ↦ by_function (changed_at c.args.self.now.line) _ _ c.args.k _ _ _ c.netlist-netlist.ensures w.in-CElement.is w.own-is c.read_by_pins.ensures
 ]

@@ -1,5 +1,5 @@
 -- Whether a gate is at rest, seen on the values of the lines.
-use Rattle.std.proofs.Common.{◌≡◌, ℕ, ◌+◌, ◌<◌, Bool, true, false, cond, not, List, get_or, None, sym, ap, ◌∙◌, subst, true≢false, arith}
+use Rattle.std.proofs.Common.{◌≡◌, ℕ, ◌+◌, ◌<◌, Bool, true, false, cond, not, List, get_or, None, sym, ap, ◌∙◌, true≢false, arith}
 use mathlib.Core.Bool.{false≢true}
 use Rattle.ternary.specs.declared.Value.{Value}
 use Rattle.ternary.specs.Logics.{three_valued}

@@ -1,5 +1,5 @@
 -- What a gate computes, over any logic: its pins' values and the value of its own line give the value that it drives.
-use Rattle.std.specs.Prelude.{ℕ, zero, suc, ◌-◌, ◌/◌, ◌%◌, ◌^◌, Bool, true, false, cond, List, [], ◌==◌, slice_index}
+use Rattle.std.specs.Prelude.{ℕ, zero, suc, ◌-◌, ◌/◌, ◌%◌, ◌^◌, Bool, true, false, cond, ◌==◌, slice_index}
 use Rattle.ternary.specs.Logics.{Logic}
 use Rattle.circuit.specs.declared.gate.Sum.{Sum}
 use Rattle.circuit.specs.declared.gate.Function.{Function}

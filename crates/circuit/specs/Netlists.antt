@@ -1,5 +1,5 @@
 -- What makes a netlist a lawful circuit, by the places of its tables.
-use Rattle.std.specs.Prelude.{◌≡◌, ℕ, zero, suc, ◌+◌, ◌-◌, ◌^◌, ◌<◌, ◌≤◌, Bool, true, false, cond, not, ◌&&◌, List, [], ◌∷◌, map, length, take, Some, None, Option, bit_and, nat_le, nat_lt, slice_index, slice_index_or}
+use Rattle.std.specs.Prelude.{◌≡◌, ℕ, zero, suc, ◌+◌, ◌-◌, ◌^◌, ◌<◌, ◌≤◌, Bool, true, false, cond, not, ◌&&◌, List, [], ◌∷◌, map, take, Some, None, Option, bit_and, nat_le, nat_lt, slice_index, slice_index_or}
 use Rattle.ternary.specs.Logics.{two_valued}
 use Rattle.circuit.specs.declared.gate.Sum.{Sum}
 use Rattle.circuit.specs.declared.gate.Function.{Function}

@@ -23,4 +23,17 @@ none P i h = absurd (omega arith)
 pub invariant_of-result : goal.invariant_of-result
 unfolding literal driven
 invariant_of-result c =
-    ((lit< tt, lit≤ tt), ((lit< tt, lit≤ tt), ((lit< tt, lit≤ tt), (one _ (lit≤ tt, lit≤ tt), (two _ _ refl (lit< tt), (one _ (lit< tt, lit≤ tt), (two _ _ refl (lit< tt), (two _ _ refl (lit< tt), (both _ _ refl refl, (one _ (lit≤ tt, lit< tt), (none _, (one _ refl, tt))))))))))))
+    record {
+      fed = (lit< tt, lit≤ tt);
+      gated = (lit< tt, lit≤ tt);
+      observed = (lit< tt, lit≤ tt);
+      wide = one _ (lit≤ tt, lit≤ tt);
+      named = two _ _ refl (lit< tt);
+      summed = one _ (lit< tt, lit≤ tt);
+      used_some = two _ _ refl (lit< tt);
+      used_within = two _ _ refl (lit< tt);
+      inverted_used = both _ _ refl refl;
+      gate_lines = one _ (lit≤ tt, lit< tt);
+      rising = none _;
+      rest = one _ refl;
+    }

@@ -1,12 +1,12 @@
 -- Steps of reading: a byte that is there, and one thing more in a row.
-use Rattle.std.proofs.Common.{◌≡◌, ℕ, zero, suc, ◌+◌, ◌-◌, ◌<◌, ◌≤◌, Bool, true, false, cond, List, [], ◌∷◌, ◌++◌, length, get_or, take, drop, Ok, Err, Result, sym, refl, ap, ◌∙◌, arith}
+use Rattle.std.proofs.Common.{◌≡◌, ℕ, zero, suc, ◌+◌, ◌-◌, ◌<◌, ◌≤◌, true, List, [], ◌∷◌, ◌++◌, length, get_or, take, drop, Ok, Err, sym, refl, ◌∙◌, arith}
 use Rattle.refusal.specs.declared.FileFault.{FileFault}
 use Rattle.field.specs.declared.byte.Field.{Field}
 use Rattle.std.proofs.lemmas.List.{length-take-le, get_or-take, take_rest, length-drop, length_push}
 use Rattle.std.proofs.lemmas.Bool.Decides.{nat_tests}
 use Rattle.field.specs.declared.byte.Field.TheVariants.{Count, Bits, Place}
 use Rattle.field.specs.Rows.{above}
-use Rattle.field.specs.Fields.{Reading, admits, Bounds, refusal, byte_of, next, many}
+use Rattle.field.specs.Fields.{Reading, admits, Bounds, byte_of, next, many}
 
 -- a byte that its field takes
 pub byte_taken : (f : Field) (end : ℕ) (s : List ℕ) → 1 ≤ length s → admits f (get_or s 0 0) ≡ true → byte_of f end s ≡ Ok (get_or s 0 0, drop 1 s)

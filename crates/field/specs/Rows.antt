@@ -1,5 +1,5 @@
 -- Rows of bytes: which field comes after the bytes before it.
-use Rattle.std.specs.Prelude.{ℕ, ◌+◌, ◌-◌, ◌*◌, ◌^◌, min, cond, List, [], ◌∷◌, length, take, Ok, Err, Result, ◌==◌, slice_index}
+use Rattle.std.specs.Prelude.{ℕ, ◌+◌, ◌-◌, ◌*◌, ◌^◌, min, cond, List, [], length, take, Ok, Err, Result, ◌==◌, slice_index}
 use Rattle.std.specs.Borrow.{Bor}
 use Rattle.refusal.specs.declared.FileFault.{FileFault}
 use Rattle.field.specs.declared.byte.Field.{Field}

@@ -1,8 +1,6 @@
 -- The number, the layer and the place with which each refusal is printed: the one table that every promise cites.
 use Rattle.std.specs.Prelude.{ℕ, List, ◌++◌, codes, decimal}
-use Rattle.refusal.specs.declared.FileFault.{FileFault}
 use Rattle.refusal.specs.declared.FileFault.TheVariants.{Short, Range, Stray, Nowhere, Overlong}
-use Rattle.refusal.specs.declared.CircuitFault.{CircuitFault}
 use Rattle.refusal.specs.declared.CircuitFault.TheVariants.{File, Crowded, Restless}
 use Rattle.refusal.specs.declared.GradingFault.{GradingFault}
 use Rattle.refusal.specs.declared.GradingFault.TheVariants.{Circuit, Small, Input, Full, Oscillation, Race, Unknown, Narrow}

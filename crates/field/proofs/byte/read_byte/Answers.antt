@@ -1,4 +1,4 @@
-use Rattle.std.proofs.Common.{◌≡◌, sym, ◌∙◌, arith, ltb-false}
+use Rattle.std.proofs.Common.{sym, ◌∙◌, arith, ltb-false}
 use Rattle.std.proofs.lemmas.List.{take_rest}
 use Rattle.field.proofs.Steps.{byte_taken, rest_shorter, bounds_kept}
 use Rattle.field.proofs.byte.read_byte.Goals as goal

@@ -22,7 +22,7 @@ loop-n-init c = (
 
 pub returns-in_err-named : goal.returns-in_err-named
 returns-in_err-named c =
-    let p = err_from_is_err_and c.from-residual-in_err-named.result c.from-residual-in_err-named.ensures.1 in
+    let p = err_from_is_err_and c.from_residual-in_err-named.result c.from_residual-in_err-named.ensures.1 in
     rw (p.1, p.2)
     (record {
       is =

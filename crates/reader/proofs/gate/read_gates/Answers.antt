@@ -8,7 +8,7 @@ use Rattle.reader.proofs.gate.read_gates.Goals as goal
 
 pub returns-in_err-gate : goal.returns-in_err-gate
 returns-in_err-gate c =
-    let p = err_from_is_err_and c.from-residual.result c.from-residual.ensures.1 in
+    let p = err_from_is_err_and c.from_residual.result c.from_residual.ensures.1 in
     rw (p.1, p.2)
     (record {
       is =

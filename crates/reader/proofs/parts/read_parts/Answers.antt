@@ -26,7 +26,7 @@ together n h a b o s l = rw (a, b, o, s, length-take-le n.outputs n.output l)
 
 pub returns-in_err-list : goal.returns-in_err-list
 returns-in_err-list c =
-    let p = err_from_is_err_and c.from-residual-in_err-list.result c.from-residual-in_err-list.ensures.1 in
+    let p = err_from_is_err_and c.from_residual-in_err-list.result c.from_residual-in_err-list.ensures.1 in
     let h = c.in_ok-head.head in
     rw (p.1, p.2)
     (record {

@@ -1,7 +1,5 @@
-use Rattle.std.proofs.Common.{◌≡◌, ℕ, ◌+◌, ◌<◌, ◌≤◌, length, take, sym, ap, ◌∙◌, ap₂, arith}
+use Rattle.std.proofs.Common.{◌+◌, ◌<◌, ◌≤◌, length, sym, ap, ◌∙◌, arith}
 use Rattle.field.specs.declared.byte.Field.TheVariants.{Place}
-use Rattle.field.specs.Rows.{field_after, above}
-use Rattle.field.specs.declared.row.Row.{Row}
 use Rattle.field.proofs.Steps.{above_last}
 use Rattle.field.proofs.row.Row.field.Goals as goal
 

@@ -1,6 +1,5 @@
 -- A job as a person writes it down, and when it is lawful.
-use Rattle.std.specs.Prelude.{◌≡◌, ℕ, zero, suc, ◌+◌, ◌<◌, ◌≤◌, Bool, true, false, List, [], ◌∷◌, ◌++◌, length}
-use Rattle.circuit.specs.declared.gate.Sum.{Sum}
+use Rattle.std.specs.Prelude.{◌≡◌, ℕ, zero, suc, ◌+◌, ◌<◌, ◌≤◌, true, false, List, [], ◌∷◌, ◌++◌, length}
 use Rattle.circuit.specs.declared.gate.Function.{Function}
 use Rattle.circuit.specs.declared.gate.Function.TheVariants.{Complex, CElement}
 use Rattle.circuit.specs.declared.gate.Gate.{Gate}

@@ -1,5 +1,5 @@
 -- What is accepted is exactly what is written: the encodings of lawful jobs.
-use Rattle.std.specs.Prelude.{◌≡◌, ℕ, List, Ok, Err, Result}
+use Rattle.std.specs.Prelude.{◌≡◌, ℕ, List, Ok, Result}
 use Rattle.refusal.specs.declared.CircuitFault.{CircuitFault}
 use Rattle.format.specs.Descriptions.{Description, LawfulJob}
 use Rattle.format.specs.Written.{Written}

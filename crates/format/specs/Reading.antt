@@ -1,6 +1,5 @@
 -- What comes of every file, field by field from left to right: the job, or what is refused and where.
-use Rattle.std.specs.Prelude.{ℕ, zero, suc, ◌+◌, ◌-◌, ◌/◌, ◌%◌, Bool, true, false, cond, List, [], ◌∷◌, ◌++◌, length, replicate, Some, None, Ok, Err, Option, Result, nat_lt, slice_index}
-use Rattle.refusal.specs.declared.FileFault.{FileFault}
+use Rattle.std.specs.Prelude.{ℕ, zero, suc, ◌+◌, ◌-◌, ◌/◌, ◌%◌, Bool, false, cond, List, [], ◌∷◌, ◌++◌, length, replicate, Some, None, Ok, Err, Option, Result, nat_lt, slice_index}
 use Rattle.refusal.specs.declared.FileFault.TheVariants.{Overlong}
 use Rattle.refusal.specs.declared.CircuitFault.{CircuitFault}
 use Rattle.refusal.specs.declared.CircuitFault.TheVariants.{File, Crowded, Restless}

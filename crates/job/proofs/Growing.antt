@@ -1,6 +1,6 @@
 -- A list in the making grows by one fault.
-use Rattle.std.proofs.Common.{◌≡◌, ℕ, zero, suc, ◌+◌, ◌*◌, ◌<◌, ◌≤◌, List, [], ◌∷◌, ◌++◌, length, take, set, sym, refl, ap, ◌∙◌, arith}
-use Rattle.std.proofs.lemmas.List.{length_push, length-append, take_more_set, append_assoc}
+use Rattle.std.proofs.Common.{◌+◌, ◌<◌, ◌≤◌, List, [], ◌∷◌, ◌++◌, length, set, ap, ◌∙◌, arith}
+use Rattle.std.proofs.lemmas.List.{length_push, take_more_set}
 use Rattle.circuit.specs.declared.site.Fault.{Fault}
 use Rattle.job.specs.declared.made.Making.{Making}
 use Rattle.job.specs.Making.{Holds}

@@ -1,17 +1,16 @@
 -- From the parts of a file to its job: what is left over, which faults are graded, and that the job is lawful.
-use Rattle.std.proofs.Common.{◌≡◌, ℕ, zero, suc, ◌+◌, ◌-◌, ◌<◌, ◌≤◌, Bool, true, false, cond, ltb, List, [], ◌∷◌, ◌++◌, map, length, get_or, take, Some, None, Ok, Err, Option, Result, sym, refl, ap, ◌∙◌, subst, ap₂, arith, le-ltb, lt-ltb}
+use Rattle.std.proofs.Common.{◌≡◌, ℕ, zero, suc, ◌+◌, ◌-◌, ◌<◌, ◌≤◌, true, List, ◌++◌, map, length, take, Some, None, Ok, Err, Option, sym, refl, ap, ◌∙◌, ap₂, arith, le-ltb, lt-ltb}
 use Rattle.std.proofs.lemmas.List.{length-take-le, get_or-take}
 use Rattle.refusal.specs.declared.FileFault.{FileFault}
 use Rattle.refusal.specs.declared.FileFault.TheVariants.{Overlong}
-use Rattle.refusal.specs.declared.CircuitFault.{CircuitFault}
 use Rattle.refusal.specs.declared.CircuitFault.TheVariants.{File, Crowded, Restless}
 use Rattle.circuit.specs.declared.gate.Gate.{Gate}
 use Rattle.circuit.specs.declared.netlist.Netlist.{Netlist}
 use Rattle.circuit.specs.declared.site.Fault.{Fault}
-use Rattle.circuit.specs.Netlists.{gate_at, fault_at, trimmed, trimmed_gate, restless, sited, Lawful}
+use Rattle.circuit.specs.Netlists.{fault_at, trimmed, trimmed_gate, restless, sited, Lawful}
 use Rattle.circuit.proofs.Trimmed.{gate_at_trimmed, lawful_from_trimmed, restless_trimmed, sited_trimmed}
-use Rattle.format.specs.Descriptions.{Description, LawfulJob, stems, pins_of, gate_pins, made}
-use Rattle.format.specs.Reading.{parts_of, rested, graded, finished, job_of}
+use Rattle.format.specs.Descriptions.{LawfulJob, stems, pins_of, gate_pins, made}
+use Rattle.format.specs.Reading.{parts_of, rested, graded, job_of}
 use Rattle.format.proofs.JobLaw.{exactly, parts_lawful}
 
 -- a netlist that is read is lawful but for its start

@@ -1,5 +1,5 @@
 -- What reading answers: the job as it is written down, or the refusal.
-use Rattle.std.specs.Prelude.{List, take, Ok, Err, Result}
+use Rattle.std.specs.Prelude.{take, Ok, Err, Result}
 use Rattle.refusal.specs.declared.CircuitFault.{CircuitFault}
 use Rattle.circuit.specs.Netlists.{trimmed}
 use Rattle.format.specs.Descriptions.{Description}

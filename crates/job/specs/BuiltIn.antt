@@ -1,5 +1,5 @@
 -- The job that reading is lent to begin with.
-use Rattle.std.specs.Prelude.{◌≡◌, false, List, [], ◌∷◌, take}
+use Rattle.std.specs.Prelude.{◌≡◌, false, [], ◌∷◌, take}
 use Rattle.circuit.specs.declared.netlist.Netlist.{Netlist}
 use Rattle.circuit.specs.declared.site.Site.TheVariants.{Stem}
 use Rattle.circuit.specs.declared.site.FaultList.{FaultList}

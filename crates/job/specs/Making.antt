@@ -1,5 +1,5 @@
 -- What a list in the making holds: a list of faults, of which the first 192 are kept.
-use Rattle.std.specs.Prelude.{◌≡◌, ℕ, ◌≤◌, List, length, take}
+use Rattle.std.specs.Prelude.{◌≡◌, ◌≤◌, List, length, take}
 use Rattle.circuit.specs.declared.site.Fault.{Fault}
 use Rattle.job.specs.declared.made.Making.{Making}
 

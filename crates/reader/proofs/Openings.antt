@@ -1,5 +1,5 @@
 -- What a gate's record opens with, where it is lawful; and masks read against a table of used masks.
-use Rattle.std.proofs.Common.{◌≡◌, ℕ, zero, suc, ◌+◌, ◌-◌, ◌<◌, ◌≤◌, Bool, true, false, cond, List, [], ◌∷◌, length, get_or, take, drop, replicate, Ok, Err, sym, refl, ap, ◌∙◌, arith}
+use Rattle.std.proofs.Common.{◌≡◌, ℕ, ◌≤◌, Bool, true, false, cond, List, [], ◌∷◌, length, get_or, take, drop, replicate, Ok, sym, ap, ◌∙◌, arith}
 use Rattle.std.proofs.lemmas.List.{get_or-take, take-replicate}
 use Rattle.circuit.specs.Gates.{bit}
 use Rattle.field.specs.declared.byte.Field.TheVariants.{Count, Bits}

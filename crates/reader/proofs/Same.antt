@@ -1,5 +1,5 @@
 -- Faults are read alike against a table of gates and against the gates that it needs.
-use Rattle.std.proofs.Common.{◌≡◌, ℕ, zero, suc, ◌+◌, ◌-◌, ◌<◌, ◌≤◌, Bool, true, false, cond, List, [], ◌∷◌, ◌++◌, map, length, take, Ok, Err, sym, refl, ap, ◌∙◌, arith}
+use Rattle.std.proofs.Common.{◌≡◌, ℕ, ◌+◌, ◌-◌, ◌<◌, ◌≤◌, Bool, true, false, cond, List, [], map, take, Ok, Err, refl, ap, arith}
 use Rattle.circuit.specs.declared.gate.Gate.{Gate}
 use Rattle.circuit.specs.declared.site.Site.TheVariants.{Stem, Pin}
 use Rattle.circuit.specs.declared.site.Fault.{Fault}
@@ -7,7 +7,7 @@ use Rattle.circuit.specs.Gates.{bit}
 use Rattle.circuit.specs.Netlists.{gate_at, trimmed_gate}
 use Rattle.circuit.proofs.Trimmed.{gate_at_trimmed}
 use Rattle.field.specs.declared.byte.Field.TheVariants.{Count, Bits, Place}
-use Rattle.field.specs.Fields.{Reading, byte_of, next, many}
+use Rattle.field.specs.Fields.{Reading, byte_of, next}
 use Rattle.field.proofs.Steps.{bounds_kept, many_same}
 use Rattle.format.specs.Reading.{fault_of, faults_of}
 use Rattle.format.proofs.Readers.{byte_fits}

@@ -1,4 +1,4 @@
-use Rattle.std.proofs.Common.{◌≡◌, ℕ, ◌+◌, ◌<◌, ◌≤◌, List, [], ◌∷◌, ◌++◌, length, set, ap, arith, rules}
+use Rattle.std.proofs.Common.{◌≡◌, ◌+◌, ◌<◌, ◌≤◌, List, [], ◌∷◌, ◌++◌, length, set, ap, rules}
 use Rattle.circuit.specs.declared.site.Fault.{Fault}
 use Rattle.job.specs.declared.made.Making.{Making}
 use Rattle.job.specs.Making.{Holds}

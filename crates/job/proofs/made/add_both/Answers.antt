@@ -1,5 +1,4 @@
-use Rattle.std.proofs.Common.{◌≡◌, List, [], ◌∷◌, ◌++◌, subst, append_assoc, arith}
-use Rattle.circuit.specs.declared.site.Fault.{Fault}
+use Rattle.std.proofs.Common.{subst, append_assoc, arith}
 use Rattle.job.specs.Making.{Holds}
 use Rattle.job.proofs.made.add_both.Goals as goal
 

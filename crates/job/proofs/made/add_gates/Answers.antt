@@ -1,6 +1,6 @@
-use Rattle.std.proofs.Common.{◌≡◌, ◌<◌, ◌≤◌, ◌++◌, subst, append_assoc, add-one, arith}
+use Rattle.std.proofs.Common.{◌≤◌, subst, append_assoc, add-one, arith}
 use Rattle.circuit.specs.Netlists.{gate_at}
-use Rattle.format.specs.Descriptions.{gate_pins, pins_of}
+use Rattle.format.specs.Descriptions.{gate_pins}
 use Rattle.job.specs.Making.{Holds}
 use Rattle.job.proofs.made.add_gates.Goals as goal
 

@@ -1,6 +1,5 @@
-use Rattle.std.proofs.Common.{◌≡◌, ◌+◌, ◌<◌, ◌≤◌, ◌++◌, length, arith}
-use Rattle.format.specs.Descriptions.{stems, gate_pins, made}
-use Rattle.job.specs.Making.{Holds}
+use Rattle.std.proofs.Common.{◌+◌, arith}
+use Rattle.format.specs.Descriptions.{stems, made}
 use Rattle.job.proofs.made.made_list.Goals as goal
 
 pub returns-then-making-gt192 : goal.returns-then-making-gt192

@@ -1,4 +1,4 @@
-use Rattle.std.proofs.Common.{◌≡◌, Option, ap, ◌∙◌}
+use Rattle.std.proofs.Common.{Option, ap, ◌∙◌}
 use Rattle.circuit.specs.declared.site.FaultList.{FaultList}
 use Rattle.circuit.specs.Netlists.{trimmed}
 use Rattle.format.specs.Reading.{graded}

@@ -1,10 +1,9 @@
-use Rattle.std.proofs.Common.{◌≡◌, ℕ, ◌<◌, ◌≤◌, true, List, length, take, Ok, Result, sym, ap, ◌∙◌, subst, ap₂, rules}
+use Rattle.std.proofs.Common.{◌≡◌, ◌≤◌, true, length, Ok, Result, sym, ap, ◌∙◌, subst, rules}
 use Rattle.refusal.specs.declared.CircuitFault.{CircuitFault}
 use Rattle.circuit.specs.declared.circuit.Circuit.{Circuit}
 use Rattle.circuit.specs.declared.netlist.Netlist.{Netlist}
-use Rattle.circuit.specs.declared.site.Fault.{Fault}
 use Rattle.circuit.specs.declared.site.FaultList.{FaultList}
-use Rattle.circuit.specs.Netlists.{Lawful, fault_at, sited, trimmed}
+use Rattle.circuit.specs.Netlists.{fault_at, sited, trimmed}
 use Rattle.format.specs.Descriptions.{Description}
 use Rattle.reader.specs.Parts.{listed, listed_in}
 use Rattle.job.proofs.Whole.{netlist_lawful, at_rest, not_at_rest, faults_some, faults_placed}

@@ -1,4 +1,4 @@
-use Rattle.std.proofs.Common.{◌≡◌, ℕ, length, get_or, sym, ap, ◌∙◌, arith, ltb-false}
+use Rattle.std.proofs.Common.{ℕ, get_or, sym, ap, ◌∙◌, arith, ltb-false}
 use Rattle.std.proofs.lemmas.List.{take_rest, length-drop}
 use Rattle.field.specs.declared.byte.Field.TheVariants.{Count}
 use Rattle.field.specs.Fields.{admits}

@@ -1,8 +1,6 @@
-use Rattle.std.proofs.Common.{◌≡◌, ℕ, zero, suc, ◌+◌, ◌/◌, ◌%◌, ◌<◌, ◌≤◌, Bool, true, false, List, [], ◌∷◌, ◌++◌, length, get_or, take, replicate, Ok, Err, sym, refl, ap, ◌∙◌, arith}
+use Rattle.std.proofs.Common.{◌≡◌, ℕ, zero, suc, ◌+◌, ◌/◌, ◌<◌, ◌≤◌, Bool, true, false, List, take, replicate, Ok, sym, refl, ap, ◌∙◌, arith}
 use Rattle.std.proofs.lemmas.List.{take-replicate, get_or-take}
-use Rattle.circuit.specs.Gates.{bit}
 use Rattle.field.specs.declared.row.Row.TheVariants.{Start}
-use Rattle.field.specs.Fields.{Reading}
 use Rattle.field.specs.Rows.{row_of}
 use Rattle.format.specs.Reading.{unpacked, start_of}
 use Rattle.reader.proofs.head.read_start.Goals as goal

@@ -1,4 +1,4 @@
-use Rattle.std.proofs.Common.{◌≡◌, ℕ, ◌+◌, ◌/◌, ◌%◌, ◌<◌, Bool, List, [], ◌∷◌, ◌++◌, length, get_or, take, set, sym, ap, ◌∙◌, ap₂, add-one, arith}
+use Rattle.std.proofs.Common.{◌≡◌, ℕ, ◌+◌, ◌/◌, ◌%◌, ◌<◌, Bool, List, [], ◌∷◌, ◌++◌, length, get_or, take, set, ◌∙◌, ap₂, add-one, arith}
 use Rattle.std.proofs.lemmas.List.{length-set, take_more_set}
 use Rattle.circuit.specs.Gates.{bit}
 use Rattle.format.specs.Reading.{unpacked}

@@ -36,24 +36,24 @@ const BAD: [(&str, &[u8]); 7] = [
 ];
 
 // Checks that a job is the one of the good file.
-fn check_good(rt: &impl Abort, job: &Job) -> Result<(), Fail> {
-    check_counts(rt, job, Accepted(2, 1, 1, 2));
-    check_list(rt, job.faults(), &ITS_FAULTS)?;
-    assert!(rt; job.circuit().netlist().start[2]);
+fn check_good(rt: &impl Abort, name: &str, job: &Job) -> Result<(), Fail> {
+    check_counts(rt, name, job, Accepted(2, 1, 1, 2));
+    check_list(rt, name, job.faults(), &ITS_FAULTS)?;
+    assert!(rt; job.circuit().netlist().start[2], "{name}");
     Ok(())
 }
 
 // Checks that a file is refused, and that the job that was lent is still the good one.
-fn check_kept(rt: &impl Abort, file: &[u8]) -> Result<(), Fail> {
+fn check_kept(rt: &impl Abort, name: &str, file: &[u8]) -> Result<(), Fail> {
     let mut job = accepted(&GOOD)?;
-    assert!(rt; read(file, &mut job).is_err());
-    check_good(rt, &job)
+    assert!(rt; read(file, &mut job).is_err(), "{name}");
+    check_good(rt, name, &job)
 }
 
 #[test]
 fn kept_by_a_refusal(rt: HostRuntime) -> Result<(), Fail> {
     for (name, file) in &BAD {
-        check_kept(&rt, file).note(*name)?;
+        check_kept(&rt, name, file)?;
     }
     Ok(())
 }
@@ -61,9 +61,9 @@ fn kept_by_a_refusal(rt: HostRuntime) -> Result<(), Fail> {
 #[test]
 fn written_over_by_a_job(rt: HostRuntime) -> Result<(), Fail> {
     let mut job = Job::built_in();
-    check_counts(&rt, &job, Accepted(1, 1, 1, 1));
+    check_counts(&rt, "built in", &job, Accepted(1, 1, 1, 1));
     read(&[0, 1, 2, 1, 1, 0, 2, 0, 2, 1, 1, 0, 1, 1], &mut job)?;
-    check_counts(&rt, &job, Accepted(1, 2, 1, 12));
+    check_counts(&rt, "two gates", &job, Accepted(1, 2, 1, 12));
     read(&GOOD, &mut job)?;
-    check_good(&rt, &job)
+    check_good(&rt, "the good file", &job)
 }

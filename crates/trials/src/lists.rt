@@ -80,17 +80,22 @@ const NAMED: [Fault; 5] = [
 ];
 
 /// Checks that a list has these faults and no others.
-pub(crate) fn check_list(rt: &impl Abort, list: &FaultList, faults: &[Fault]) -> Result<(), Fail> {
-    assert_eq!(rt; list.count as usize, faults.len());
+pub(crate) fn check_list(
+    rt: &impl Abort,
+    name: &str,
+    list: &FaultList,
+    faults: &[Fault],
+) -> Result<(), Fail> {
+    assert_eq!(rt; list.count as usize, faults.len(), "{name}");
     let given = list.fault.get(0..faults.len()).ok_or("no such list")?;
-    assert_eq!(rt; given, faults);
+    assert_eq!(rt; given, faults, "{name}");
     Ok(())
 }
 
 #[test]
 fn made(rt: HostRuntime) -> Result<(), Fail> {
     let job = accepted(&[0, 1, 2, 1, 1, 0, 2, 0, 2, 1, 1, 0, 1, 1])?;
-    check_list(&rt, job.faults(), &MADE)
+    check_list(&rt, "made", job.faults(), &MADE)
 }
 
 #[test]
@@ -98,5 +103,5 @@ fn named(rt: HostRuntime) -> Result<(), Fail> {
     let job = accepted(&[
         2, 2, 1, 1, 2, 0, 2, 0, 1, 5, 3, 2, 1, 1, 0, 2, 2, 0, 0, 2, 1, 0,
     ])?;
-    check_list(&rt, job.faults(), &NAMED)
+    check_list(&rt, "named", job.faults(), &NAMED)
 }

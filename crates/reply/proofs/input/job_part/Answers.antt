@@ -1,4 +1,4 @@
-use Rattle.std.proofs.Common.{◌≡◌, ℕ, ◌+◌, ◌-◌, ◌*◌, ◌<◌, ◌≤◌, min, List, [], ◌∷◌, length, get_or, take, drop, sym, ap, ◌∙◌, arith, rules, ltb-false}
+use Rattle.std.proofs.Common.{◌≡◌, ℕ, ◌+◌, ◌-◌, ◌*◌, ◌≤◌, min, List, [], ◌∷◌, length, get_or, take, drop, arith, rules, ltb-false}
 use Rattle.std.proofs.lemmas.List.{places, same_lists}
 use Rattle.reply.specs.Inputs.{job_part}
 use Rattle.reply.proofs.input.job_part.Goals as goal

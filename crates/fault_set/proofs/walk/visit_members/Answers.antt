@@ -1,4 +1,4 @@
-use Rattle.std.proofs.Common.{◌≡◌, ℕ, fold, sym, ap, ◌∙◌, arith}
+use Rattle.std.proofs.Common.{◌≡◌, fold, sym, ap, arith}
 use Rattle.std.proofs.lemmas.List.Sums.{fold_push}
 use Rattle.fault_set.specs.Walks.{members_below}
 use Rattle.fault_set.proofs.Walked.{members_none, members_step, contains_members}

@@ -4,7 +4,6 @@ use fault_set::set::FaultSet;
 use fault_set::walk::count_by_walk;
 use number_list::list::NumberList;
 use std::process::Abort;
-use std::test::Fail;
 
 /// What is done to the first set.
 #[derive(Clone, Copy)]
@@ -189,47 +188,46 @@ fn first_from(members: &[u8], n: u8) -> u8 {
     192
 }
 
-/// Asks a set everything, and holds the answers against its rising members.
+/// Asks a set everything, and holds the answers against its rising members. A failure tells the kind and the name.
 pub(crate) fn check_members<S: FaultSet>(
     rt: &impl Abort,
+    kind: &str,
+    name: &str,
     set: &S,
     members: &[u8],
-) -> Result<(), Fail> {
+) {
     for n in 0..=255u8 {
-        assert_eq!(rt; set.has(n), members.contains(&n));
-        assert_eq!(rt; set.next_after(n), first_from(members, n));
+        assert_eq!(rt; set.has(n), members.contains(&n), "{kind}: {name}");
+        assert_eq!(rt; set.next_after(n), first_from(members, n), "{kind}: {name}");
     }
-    assert_eq!(rt; usize::from(set.count()), members.len());
-    assert_eq!(rt; count_by_walk(set), set.count());
-    Ok(())
+    assert_eq!(rt; usize::from(set.count()), members.len(), "{kind}: {name}");
+    assert_eq!(rt; count_by_walk(set), set.count(), "{kind}: {name}");
 }
 
 // One case, with the second set asked again after it.
-fn try_case<S: FaultSet>(rt: &impl Abort, empty: S, case: &Case) -> Result<(), Fail> {
-    let (_, first, step, second, members) = case;
+fn try_case<S: FaultSet>(rt: &impl Abort, kind: &str, empty: S, case: &Case) {
+    let (name, first, step, second, members) = case;
     let mut set = filled(empty, first);
     let other = filled(empty, second);
-    assert!(rt; made(&mut set, *step, &other));
-    check_members(rt, &set, members)?;
-    assert!(rt; set.same(&filled(empty, members)));
-    assert!(rt; other.same(&filled(empty, second)));
-    assert_eq!(rt; set.same(&empty), members.is_empty());
-    Ok(())
+    assert!(rt; made(&mut set, *step, &other), "{kind}: {name}");
+    check_members(rt, kind, name, &set, members);
+    assert!(rt; set.same(&filled(empty, members)), "{kind}: {name}");
+    assert!(rt; other.same(&filled(empty, second)), "{kind}: {name}");
+    assert_eq!(rt; set.same(&empty), members.is_empty(), "{kind}: {name}");
 }
 
 // All cases, for one kind.
-fn trial<S: FaultSet>(rt: &impl Abort, empty: S) -> Result<(), Fail> {
+fn trial<S: FaultSet>(rt: &impl Abort, kind: &str, empty: S) {
     for case in &ALONE {
-        try_case(rt, empty, case).note(case.0)?;
+        try_case(rt, kind, empty, case);
     }
     for case in &TOGETHER {
-        try_case(rt, empty, case).note(case.0)?;
+        try_case(rt, kind, empty, case);
     }
-    Ok(())
 }
 
 #[test]
-fn every_kind(rt: HostRuntime) -> Result<(), Fail> {
-    trial(&rt, BitMap::empty()).note("bit map")?;
-    trial(&rt, NumberList::empty()).note("number list")
+fn every_kind(rt: HostRuntime) {
+    trial(&rt, "bit map", BitMap::empty());
+    trial(&rt, "number list", NumberList::empty());
 }

@@ -3,7 +3,6 @@ use crate::cases::check_members;
 use bit_map::map::BitMap;
 use fault_set::set::FaultSet;
 use number_list::list::NumberList;
-use std::test::Fail;
 
 /// A name, the first places of a row, its length, and its members.
 type Row = (&'static str, [u8; 4], u8, &'static [u8]);
@@ -50,36 +49,30 @@ fn listed(row: &Row) -> NumberList {
 }
 
 #[test]
-fn lists_in_disorder(rt: HostRuntime) -> Result<(), Fail> {
+fn lists_in_disorder(rt: HostRuntime) {
     for row in &ROWS {
-        check_members(&rt, &listed(row), row.3).note(row.0)?;
+        check_members(&rt, "number list", row.0, &listed(row), row.3);
     }
-    Ok(())
 }
 
 #[test]
-fn lists_in_disorder_together(rt: HostRuntime) -> Result<(), Fail> {
+fn lists_in_disorder_together(rt: HostRuntime) {
     for row in &ROWS {
         let mut set = listed(row);
         let mut kept = set;
         set.unite(&NumberList::empty());
-        check_members(&rt, &set, row.3).note(row.0)?;
+        check_members(&rt, "number list", row.0, &set, row.3);
         kept.keep_common(&listed(row));
-        assert!(rt; kept.same(&set), "{}", row.0);
+        assert!(rt; kept.same(&set), "number list: {}", row.0);
     }
-    Ok(())
 }
 
 #[test]
-fn words(rt: HostRuntime) -> Result<(), Fail> {
-    check_members(&rt, &BitMap::from_words([0; 3]), &[])?;
-    check_members(
-        &rt,
-        &BitMap::from_words([1 << 63, 1, 1 << 63]),
-        &[63, 64, 191],
-    )?;
+fn words(rt: HostRuntime) {
+    check_members(&rt, "bit map", "no bit", &BitMap::from_words([0; 3]), &[]);
+    let ends = BitMap::from_words([1 << 63, 1, 1 << 63]);
+    check_members(&rt, "bit map", "ends of words", &ends, &[63, 64, 191]);
     let all = BitMap::from_words([u64::MAX; 3]);
     assert_eq!(rt; all.count(), 192);
     assert!(rt; !all.has(192));
-    Ok(())
 }

@@ -17,8 +17,8 @@ pub trait Visitor {
 
 /// Shows each member to the visitor, smallest first: all numbers that are in the set, and no other.
 pub fn visit_members<S: FaultSet, V: Visitor>(set: &S, visitor: &mut V)
-    ensures shown { visitor.new ≡ fold visited visitor.old (members_below (member set.now) 192) }
-    ensures every { (k : ℕ) → contains (members_below (member set.now) 192) k ≡ member set.now k }
+    ensures shown { visitor.new ≡ fold V.visited visitor.old (members_below (S.member set.now) 192) }
+    ensures every { (k : ℕ) → contains (members_below (S.member set.now) 192) k ≡ S.member set.now k }
 {
     let mut n = first_member(set);
     while n < 192 {
@@ -29,7 +29,7 @@ pub fn visit_members<S: FaultSet, V: Visitor>(set: &S, visitor: &mut V)
 
 /// How many members there are, found by a walk: what `count` answers.
 pub fn count_by_walk<S: FaultSet>(set: &S) -> u8
-    ensures { result ≡ tally (member set.now) 192 }
+    ensures { result ≡ tally (S.member set.now) 192 }
 {
     let mut counter = Counter { count: 0 };
     visit_members(set, &mut counter);
@@ -53,8 +53,8 @@ impl Visitor for Counter {
 // The smallest member, and 192 if there is none.
 fn first_member<S: FaultSet>(set: &S) -> u8
     ensures bound { result ≤ 192 }
-    ensures least { (k : ℕ) → k < result → member set.now k ≡ false }
-    ensures found { result < 192 → member set.now result ≡ true }
+    ensures least { (k : ℕ) → k < result → S.member set.now k ≡ false }
+    ensures found { result < 192 → S.member set.now result ≡ true }
 {
     set.next_after(0)
 }
@@ -63,8 +63,8 @@ fn first_member<S: FaultSet>(set: &S) -> u8
 fn member_above<S: FaultSet>(set: &S, n: u8) -> u8
     requires { n < 192 }
     ensures bound { (n < result) × (result ≤ 192) }
-    ensures least { (k : ℕ) → n < k → k < result → member set.now k ≡ false }
-    ensures found { result < 192 → member set.now result ≡ true }
+    ensures least { (k : ℕ) → n < k → k < result → S.member set.now k ≡ false }
+    ensures found { result < 192 → S.member set.now result ≡ true }
 {
     set.next_after(n + 1)
 }

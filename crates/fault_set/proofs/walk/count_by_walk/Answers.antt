@@ -5,4 +5,4 @@ use Rattle.fault_set.proofs.walk.count_by_walk.Goals as goal
 
 pub returns : goal.returns
 returns g c =
-    ap (λ (v : Counter). v.count) (c.visit-members.ensures.shown ∙ counter_counts (g.S.FaultSet.member c.args.set.now) 192 (omega arith))
+    ap (λ (v : Counter). v.count) (c.visit_members.ensures.shown ∙ counter_counts (g.S.FaultSet.member c.args.set.now) 192 (omega arith))

@@ -3,8 +3,8 @@ use Rattle.rising.proofs.Rising.{reach_tally}
 use Rattle.rising.proofs.Walk.{reach_le, seen_more, seen_last}
 use Rattle.number_list.proofs.numbers.Numbers.count.Goals as goal
 
-pub overflow-cast-result : goal.overflow-cast-result
-overflow-cast-result c = let top = reach_le c.args.self.now.at c.args.self.now.len in search rules
+pub overflow_cast-result : goal.overflow_cast-result
+overflow_cast-result c = let top = reach_le c.args.self.now.at c.args.self.now.len in search rules
 
 pub returns : goal.returns
 returns c =

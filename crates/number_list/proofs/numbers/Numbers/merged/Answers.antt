@@ -5,7 +5,7 @@ use Rattle.number_list.specs.Rules.{keeps}
 use Rattle.number_list.specs.declared.numbers.Rule.{Rule}
 use Rattle.number_list.specs.declared.numbers.Rule.TheVariants.{Either, Common, Less}
 use Rattle.number_list.proofs.numbers.Numbers.merged.Goals as goal
-use Rattle.number_list.proofs.numbers.Numbers.merged.Goals.{then_Keeps, else-keeps}
+use Rattle.number_list.proofs.numbers.Numbers.merged.Goals.{then-keeps, else-keeps}
 
 keeps_none : (rule : Rule) → keeps rule false false ≡ false
 keeps_none Either = refl
@@ -20,13 +20,13 @@ pub loop-rule-preserved : goal.loop-rule-preserved
 loop-rule-preserved c =
     merging_more _ _ _ _ _ (keeps_none c.args.rule) _ _ _ _ _ _ _ _ _ _ _ _ c.loop-rule.invariant c.number-x.ensures c.number-y.ensures c.min-n.ensures (omega arith)
     c.keeps.ensures c.from-i.ensures c.from-j.ensures
-    (elim c.if-keeps.branch [ then_Keeps w ↦ inl (w.if-keeps.true, cc, cc) | else-keeps w ↦ inr (w.if-keeps.false, cc, cc) ])
+    (elim c.if-keeps.branch [ then-keeps w ↦ inl (w.if-keeps.true, cc, cc) | else-keeps w ↦ inr (w.if-keeps.false, cc, cc) ])
 
 pub loop-rule-smaller : goal.loop-rule-smaller
 loop-rule-smaller c = merging_less _ _ _ _ _ _ _ _ _ _ _ _ _ _ (loop-rule-preserved c) c.min-n.ensures c.from-i.ensures c.from-j.ensures
 
-pub overflow-add-i : goal.overflow-add-i
-overflow-add-i c = let top = reach_le c.args.self.now.at c.args.self.now.len in search rules
+pub overflow_add-i : goal.overflow_add-i
+overflow_add-i c = let top = reach_le c.args.self.now.at c.args.self.now.len in search rules
 
-pub overflow-add-j : goal.overflow-add-j
-overflow-add-j c = let top = reach_le c.args.other.now.at c.args.other.now.len in search rules
+pub overflow_add-j : goal.overflow_add-j
+overflow_add-j c = let top = reach_le c.args.other.now.at c.args.other.now.len in search rules

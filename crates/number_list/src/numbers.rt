@@ -1,5 +1,5 @@
 // Numbers in rising order, in a row of 192 places.
-ghost use Rattle.std.specs.Prelude.{◌≡◌, ℕ, ◌+◌, ◌<◌, ◌≤◌, true, false, ◌&&◌, set, Decides, ◌==◌, nat_lt, slice_set};
+ghost use Rattle.std.specs.Prelude.{◌≡◌, ℕ, ◌+◌, ◌<◌, ◌≤◌, true, false, ◌&&◌, Decides, ◌==◌, nat_lt, slice_set};
 ghost use Rattle.fault_set.specs.Members.{tally};
 ghost use Rattle.rising.specs.Rows.{listed, seen};
 ghost use Rattle.number_list.specs.Rules.{keeps};

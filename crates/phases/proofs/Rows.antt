@@ -1,11 +1,10 @@
 -- What is read depends on the tracks held alone; and what a row says that took its draft.
-use Rattle.std.proofs.Common.{◌≡◌, ℕ, zero, suc, ◌+◌, ◌<◌, Bool, List, [], ◌∷◌, map, length, get_or, set, sym, refl, ap, ◌∙◌, ap₂, arith}
+use Rattle.std.proofs.Common.{◌≡◌, ℕ, zero, suc, ◌+◌, Bool, List, [], ◌∷◌, map, length, get_or, set, sym, refl, ap, ◌∙◌, ap₂, arith}
 use mathlib.Core.Path.{fun_ext}
 use Rattle.ternary.specs.declared.Value.{Value}
 use Rattle.ternary.specs.declared.Value.TheVariants.{Zero, One, Two}
 use Rattle.ternary.specs.Values.{join}
-use Rattle.ternary.specs.Logics.{Tracks as Pair, tracks}
-use Rattle.switching.specs.Lines.{Lines}
+use Rattle.ternary.specs.Logics.{tracks}
 use Rattle.track.specs.declared.table.Line.{Line}
 use Rattle.track.specs.declared.table.Tracks.{Tracks}
 use Rattle.track.specs.Answers.{answers, whole, value, joined}

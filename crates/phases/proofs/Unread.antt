@@ -4,7 +4,7 @@ use mathlib.Core.Bool.{false≢true}
 use native.Mathlib.Decide.{dec_lt}
 use Rattle.ternary.specs.declared.Value.{Value}
 use Rattle.ternary.specs.declared.Value.TheVariants.{Zero, One, Two}
-use Rattle.ternary.specs.Values.{of, join}
+use Rattle.ternary.specs.Values.{of}
 use Rattle.ternary.specs.Logics.{Logic, three_valued}
 use Rattle.ternary.proofs.Keeps.{equal_kept}
 use Rattle.circuit.specs.declared.gate.Function.{Function}
@@ -14,7 +14,7 @@ use Rattle.circuit.specs.declared.circuit.Circuit.{Circuit}
 use Rattle.circuit.specs.declared.site.Fault.{Fault}
 use Rattle.circuit.specs.Gates.{function_of, driven}
 use Rattle.circuit.specs.Netlists.{gate_at, pin_at}
-use Rattle.circuit.specs.Chips.{seen, driven_in}
+use Rattle.circuit.specs.Chips.{seen}
 use Rattle.circuit.proofs.Kept.{driven_in_keeps}
 use Rattle.switching.specs.declared.Phase.{Phase}
 use Rattle.switching.specs.declared.Phase.TheVariants.{Spread, Settle}

@@ -48,7 +48,7 @@ impl Changes {
 
     // Whether a pin of the gate reads a line that changed, or `own` says so.
     fn read_by_pins(&self, gate: &Gate, own: bool) -> bool
-        requires { (gate.now.pins ≤ 8) × (((j : ℕ) → j < gate.now.pins → pin_at gate.now j < 48)) }
+        requires { (gate.now.pins ≤ 8) × ((j : ℕ) → j < gate.now.pins → pin_at gate.now j < 48) }
         ensures { result ≡ pins_read (changed_at self.now.line) gate.now own gate.now.pins }
     {
         let mut read = own;

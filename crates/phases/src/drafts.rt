@@ -1,6 +1,6 @@
 // The drafts of a pass.
 ghost use Rattle.std.specs.Prelude.{◌≡◌, ℕ, ◌+◌, ◌<◌, ◌≤◌, true, map, length, slice_index_or};
-ghost use Rattle.ternary.specs.Logics.{tracks as tracksOf};
+ghost use Rattle.ternary.specs.Logics.{tracks as tracks_of};
 ghost use Rattle.track.specs.Answers.{answers};
 ghost use Rattle.step.specs.Rows.{draft_at, Readable};
 ghost use Rattle.phases.specs.Reads.{changed_at, read_by};
@@ -24,9 +24,9 @@ fn next_of<S: FaultSet>(
     phase: Phase,
     k: u8,
 ) -> Tracks<S>
-    requires rows { Readable member Reading.Whole (circuit.now.netlist.inputs + circuit.now.netlist.gates) lines.now }
+    requires rows { Readable S.member Reading.Whole (circuit.now.netlist.inputs + circuit.now.netlist.gates) lines.now }
     requires gated { k < circuit.now.netlist.gates }
-    ensures { (n : ℕ) → answers member result n ≡ tracksOf (next_of member circuit.now index.now.list phase lines.now n k) }
+    ensures { (n : ℕ) → answers S.member result n ≡ tracks_of (next_of S.member circuit.now index.now.list phase lines.now n k) }
 {
     let target = target_of(circuit, index, lines, Reading::Whole, k);
     match phase {
@@ -48,10 +48,10 @@ pub(crate) fn write_drafts<S: FaultSet>(
     phase: Phase,
     changes: &Changes,
 )
-    requires rows { Readable member Reading.Whole (circuit.now.netlist.inputs + circuit.now.netlist.gates) lines.old }
+    requires rows { Readable S.member Reading.Whole (circuit.now.netlist.inputs + circuit.now.netlist.gates) lines.old }
     ensures held { map (λ x. x.held) lines.new ≡ map (λ x. x.held) lines.old }
     ensures elsewhere { (j : ℕ) (d : Line S) → Elsewhere circuit.now.netlist.inputs (read_by (changed_at changes.now.line) circuit.now.netlist) circuit.now.netlist.gates j → slice_index_or lines.new j d ≡ slice_index_or lines.old j d }
-    ensures drafts { (n k : ℕ) → k < circuit.now.netlist.gates → read_by (changed_at changes.now.line) circuit.now.netlist k ≡ true → draft_at member lines.new n (circuit.now.netlist.inputs + k) ≡ tracksOf (next_of member circuit.now index.now.list phase lines.old n k) }
+    ensures drafts { (n k : ℕ) → k < circuit.now.netlist.gates → read_by (changed_at changes.now.line) circuit.now.netlist k ≡ true → draft_at S.member lines.new n (circuit.now.netlist.inputs + k) ≡ tracks_of (next_of S.member circuit.now index.now.list phase lines.old n k) }
 {
     let inputs = circuit.inputs();
     for k in 0..circuit.gates() {

@@ -9,7 +9,7 @@ use Rattle.circuit.specs.declared.site.Site.TheVariants.{Stem}
 use Rattle.circuit.specs.declared.site.FaultList.{FaultList}
 use Rattle.circuit.specs.declared.circuit.Circuit.{Circuit}
 use Rattle.circuit.specs.Gates.{bit, literal, product, driven}
-use Rattle.circuit.specs.Netlists.{gate_at, pin_at, LawfulGate, Lawful}
+use Rattle.circuit.specs.Netlists.{gate_at, pin_at, Lawful}
 use Rattle.circuit.specs.Chips.{stuck_at, seen}
 use Rattle.circuit.proofs.Kept.{seen_keeps, driven_in_keeps}
 use Rattle.switching.specs.Lines.{Lines, line}

@@ -1,9 +1,8 @@
 -- The good circuit is that of any number above 191.
-use Rattle.std.proofs.Common.{◌≡◌, ℕ, ◌+◌, ◌≤◌, Bool, true, false, List, sym, refl, ap, ◌∙◌, ap₂}
+use Rattle.std.proofs.Common.{◌≡◌, ℕ, ◌+◌, ◌≤◌, Bool, true, false, List, refl, ap, ◌∙◌, ap₂}
 use mathlib.Core.Path.{fun_ext}
 use Rattle.ternary.specs.declared.Value.{Value}
 use Rattle.ternary.specs.Logics.{Tracks as Pair}
-use Rattle.switching.specs.Lines.{Lines}
 use Rattle.track.specs.declared.table.Line.{Line}
 use Rattle.track.specs.declared.table.Tracks.{Tracks}
 use Rattle.track.specs.Answers.{unless, answers, goods, whole, value}

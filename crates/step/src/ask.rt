@@ -22,7 +22,7 @@ fn meant(one: bool, zero: bool) -> Value
 /// Public only for the layers above, which have a row for each line.
 pub fn value_at<S: FaultSet>(lines: &[Line<S>], i: usize, n: u8) -> Value
     requires { i < length lines.now }
-    ensures { result ≡ value (held_at member lines.now n i) }
+    ensures { result ≡ value (held_at S.member lines.now n i) }
 {
     let line = &lines[i].held;
     let one = line.one.good != line.one.differ.has(n);

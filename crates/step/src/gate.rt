@@ -27,10 +27,10 @@ fn pin_of<S: FaultSet>(
     j: u8,
 ) -> Tracks<S>
     requires lawful { Lawful netlist.now }
-    requires rows { Readable member how (netlist.now.inputs + netlist.now.gates) lines.now }
+    requires rows { Readable S.member how (netlist.now.inputs + netlist.now.gates) lines.now }
     requires gated { k < netlist.now.gates }
     requires pinned { j < (gate_at netlist.now.gate k).pins }
-    ensures { (n : ℕ) → answers member result n ≡ pin_reads member netlist.now index.now.list lines.now n k j }
+    ensures { (n : ℕ) → answers S.member result n ≡ pin_reads S.member netlist.now index.now.list lines.now n k j }
 {
     let line = netlist.gate[k as usize].pin[j as usize];
     let mut tracks = held(lines, line as usize, how);
@@ -53,10 +53,10 @@ fn literal_of<S: FaultSet>(
     mask: u8,
 ) -> Tracks<S>
     requires lawful { Lawful netlist.now }
-    requires rows { Readable member how (netlist.now.inputs + netlist.now.gates) lines.now }
+    requires rows { Readable S.member how (netlist.now.inputs + netlist.now.gates) lines.now }
     requires gated { k < netlist.now.gates }
     requires pinned { j < (gate_at netlist.now.gate k).pins }
-    ensures { (n : ℕ) → answers member result n ≡ literal by_tracks (pin_reads member netlist.now index.now.list lines.now n k) mask j }
+    ensures { (n : ℕ) → answers S.member result n ≡ literal by_tracks (pin_reads S.member netlist.now index.now.list lines.now n k) mask j }
 {
     let pin = pin_of(netlist, index, lines, how, k, j);
     if has(mask, j) { inverted(&pin) } else { pin }
@@ -73,10 +73,10 @@ fn product_of<S: FaultSet>(
     p: u8,
 ) -> Tracks<S>
     requires lawful { Lawful netlist.now }
-    requires rows { Readable member how (netlist.now.inputs + netlist.now.gates) lines.now }
+    requires rows { Readable S.member how (netlist.now.inputs + netlist.now.gates) lines.now }
     requires gated { k < netlist.now.gates }
     requires termed { p < 8 }
-    ensures { (n : ℕ) → answers member result n ≡ product by_tracks (pin_reads member netlist.now index.now.list lines.now n k) (slice_index terms.now.used p) (slice_index terms.now.inverted p) (gate_at netlist.now.gate k).pins }
+    ensures { (n : ℕ) → answers S.member result n ≡ product by_tracks (pin_reads S.member netlist.now index.now.list lines.now n k) (slice_index terms.now.used p) (slice_index terms.now.inverted p) (gate_at netlist.now.gate k).pins }
 {
     let used = terms.used[p as usize];
     let mask = terms.inverted[p as usize];
@@ -100,10 +100,10 @@ fn sum_of<S: FaultSet>(
     terms: &Sum,
 ) -> Tracks<S>
     requires lawful { Lawful netlist.now }
-    requires rows { Readable member how (netlist.now.inputs + netlist.now.gates) lines.now }
+    requires rows { Readable S.member how (netlist.now.inputs + netlist.now.gates) lines.now }
     requires gated { k < netlist.now.gates }
     requires termed { terms.now.products ≤ 8 }
-    ensures { (n : ℕ) → answers member result n ≡ sum by_tracks (pin_reads member netlist.now index.now.list lines.now n k) (gate_at netlist.now.gate k).pins terms.now terms.now.products }
+    ensures { (n : ℕ) → answers S.member result n ≡ sum by_tracks (pin_reads S.member netlist.now index.now.list lines.now n k) (gate_at netlist.now.gate k).pins terms.now terms.now.products }
 {
     let mut any = fixed(&lines[0].held, false);
     for p in 0..terms.products {
@@ -123,9 +123,9 @@ fn c_element_of<S: FaultSet>(
     mask: u8,
 ) -> Tracks<S>
     requires lawful { Lawful netlist.now }
-    requires rows { Readable member how (netlist.now.inputs + netlist.now.gates) lines.now }
+    requires rows { Readable S.member how (netlist.now.inputs + netlist.now.gates) lines.now }
     requires gated { k < netlist.now.gates }
-    ensures { (n : ℕ) → answers member result n ≡ function_of by_tracks (pin_reads member netlist.now index.now.list lines.now n k) (held_at member lines.now n (netlist.now.inputs + k)) (gate_at netlist.now.gate k).pins (Function.CElement mask) }
+    ensures { (n : ℕ) → answers S.member result n ≡ function_of by_tracks (pin_reads S.member netlist.now index.now.list lines.now n k) (held_at S.member lines.now n (netlist.now.inputs + k)) (gate_at netlist.now.gate k).pins (Function.CElement mask) }
 {
     let own = held(lines, (netlist.inputs + k) as usize, how);
     let mut all = fixed(&own, true);
@@ -150,9 +150,9 @@ pub(crate) fn driven<S: FaultSet>(
     k: u8,
 ) -> Tracks<S>
     requires lawful { Lawful netlist.now }
-    requires rows { Readable member how (netlist.now.inputs + netlist.now.gates) lines.now }
+    requires rows { Readable S.member how (netlist.now.inputs + netlist.now.gates) lines.now }
     requires gated { k < netlist.now.gates }
-    ensures { (n : ℕ) → answers member result n ≡ driven_by by_tracks (gate_at netlist.now.gate k) (pin_reads member netlist.now index.now.list lines.now n k) (held_at member lines.now n (netlist.now.inputs + k)) }
+    ensures { (n : ℕ) → answers S.member result n ≡ driven_by by_tracks (gate_at netlist.now.gate k) (pin_reads S.member netlist.now index.now.list lines.now n k) (held_at S.member lines.now n (netlist.now.inputs + k)) }
 {
     match &netlist.gate[k as usize].function {
         Function::Complex(terms) => sum_of(netlist, index, lines, how, k, terms),

@@ -25,8 +25,8 @@ pub enum Reading {
 /// Public only for the layers above, which have a row for each line and know what they wrote there.
 pub fn held<S: FaultSet>(lines: &[Line<S>], i: usize, how: Reading) -> Tracks<S>
     requires room { i < length lines.now }
-    requires known { how ≡ Reading.Whole → (n : ℕ) → stored_at member lines.now n i ≡ held_at member lines.now n i }
-    ensures { (n : ℕ) → answers member result n ≡ held_at member lines.now n i }
+    requires known { how ≡ Reading.Whole → (n : ℕ) → stored_at S.member lines.now n i ≡ held_at S.member lines.now n i }
+    ensures { (n : ℕ) → answers S.member result n ≡ held_at S.member lines.now n i }
 {
     let line = &lines[i];
     match how {
@@ -39,7 +39,7 @@ pub fn held<S: FaultSet>(lines: &[Line<S>], i: usize, how: Reading) -> Tracks<S>
 /// Public only for the layers above, which go through the lines and pins of a circuit.
 pub fn stick<S: FaultSet>(tracks: &mut Tracks<S>, index: &SiteIndex, site: Site)
     requires { on_table site ≡ true }
-    ensures { (n : ℕ) → answers member tracks.new n ≡ seen by_tracks.const (stuck_at (fault_of index.now.list n) site) (answers member tracks.old n) }
+    ensures { (n : ℕ) → answers S.member tracks.new n ≡ seen by_tracks.const (stuck_at (fault_of index.now.list n) site) (answers S.member tracks.old n) }
 {
     let list = index.list();
     let mut n = index.first_at(site);

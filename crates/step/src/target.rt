@@ -1,10 +1,10 @@
 // What the lines are to be in all circuits at once.
 ghost use Rattle.std.specs.Prelude.{◌≡◌, ℕ, ◌+◌, ◌<◌, ◌≤◌, None};
 ghost use Rattle.ternary.specs.Values.{of};
-ghost use Rattle.ternary.specs.Logics.{tracks as tracksOf};
+ghost use Rattle.ternary.specs.Logics.{tracks as tracks_of};
 ghost use Rattle.circuit.specs.Chips.{stuck_at, seen};
 ghost use Rattle.switching.specs.Chips.{chip};
-ghost use Rattle.switching.specs.Phases.{target as targetIn};
+ghost use Rattle.switching.specs.Phases.{target as target_in};
 ghost use Rattle.track.specs.Answers.{answers, goods};
 ghost use Rattle.site_index.specs.Sites.{fault_of};
 ghost use Rattle.step.specs.Rows.{reading, good_reading, Readable};
@@ -27,10 +27,10 @@ pub fn target_of<S: FaultSet>(
     how: Reading,
     k: u8,
 ) -> Tracks<S>
-    requires rows { Readable member how (circuit.now.netlist.inputs + circuit.now.netlist.gates) lines.now }
+    requires rows { Readable S.member how (circuit.now.netlist.inputs + circuit.now.netlist.gates) lines.now }
     requires gated { k < circuit.now.netlist.gates }
-    ensures faulty { (n : ℕ) → answers member result n ≡ tracksOf (targetIn (chip circuit.now.netlist (fault_of index.now.list n)) (reading member circuit.now.netlist.inputs lines.now n) k) }
-    ensures good { goods result ≡ tracksOf (targetIn (chip circuit.now.netlist None) (good_reading circuit.now.netlist.inputs lines.now) k) }
+    ensures faulty { (n : ℕ) → answers S.member result n ≡ tracks_of (target_in (chip circuit.now.netlist (fault_of index.now.list n)) (reading S.member circuit.now.netlist.inputs lines.now n) k) }
+    ensures good { goods result ≡ tracks_of (target_in (chip circuit.now.netlist None) (good_reading circuit.now.netlist.inputs lines.now) k) }
 {
     let netlist = circuit.netlist();
     let mut tracks = driven(netlist, index, lines, how, k);
@@ -42,8 +42,8 @@ pub fn target_of<S: FaultSet>(
 /// Public only for the layers above, which go through the lines of a circuit.
 pub fn line_of<S: FaultSet>(index: &SiteIndex, like: &Tracks<S>, i: u8, bit: bool) -> Tracks<S>
     requires { i < 48 }
-    ensures faulty { (n : ℕ) → answers member result n ≡ tracksOf (seen of (stuck_at (fault_of index.now.list n) (Site.Stem i)) (of bit)) }
-    ensures good { goods result ≡ tracksOf (of bit) }
+    ensures faulty { (n : ℕ) → answers S.member result n ≡ tracks_of (seen of (stuck_at (fault_of index.now.list n) (Site.Stem i)) (of bit)) }
+    ensures good { goods result ≡ tracks_of (of bit) }
 {
     let mut tracks = fixed(like, bit);
     stick(&mut tracks, index, Site::Stem(i));

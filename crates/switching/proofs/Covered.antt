@@ -1,5 +1,5 @@
 -- Whatever the order of switching, a hold stays within the values of spreading and ends within those of settling.
-use Rattle.std.proofs.Common.{◌≡◌, ℕ, zero, suc, ◌<◌, ◌≤◌, Bool, ◌⊎◌, List, Some, None, Option, sym, refl, ◌∙◌, subst, inl, inr, arith}
+use Rattle.std.proofs.Common.{◌≡◌, ℕ, zero, suc, ◌<◌, Bool, List, Some, None, Option, sym, refl, ◌∙◌, subst, inl, inr, arith}
 use native.Mathlib.Decide.{dec_lt}
 use Rattle.ternary.specs.declared.Value.{Value}
 use Rattle.ternary.specs.Values.{of, ◌⊑◌, same}
@@ -7,9 +7,9 @@ use Rattle.ternary.proofs.Order.{⊑_trans, join_left, join_right}
 use Rattle.circuit.specs.Chips.{seen}
 use Rattle.switching.specs.Lines.{Each, Lines}
 use Rattle.switching.specs.Chips.{Chip, Covers, Extends}
-use Rattle.switching.specs.Phases.{target, applied, changing, spread_out, settle, settled}
+use Rattle.switching.specs.Phases.{target, applied, spread_out, settle, settled}
 use Rattle.switching.specs.Switching.{Step, Steps, rest, step, Served, Turn, Turns, none, turn, Hold}
-use Rattle.switching.specs.Histories.{Event, vector, restart, beginning, Run, begun, held, anew, at_start, values_after}
+use Rattle.switching.specs.Histories.{Event, beginning, Run, begun, held, anew, at_start, values_after}
 use Rattle.switching.proofs.Phases.{spread_rises, spread_closed, settle_falls}
 
 within-≡ : {a b : Bool} {v : Value} → b ≡ a → of a ⊑ v → of b ⊑ v

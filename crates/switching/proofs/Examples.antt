@@ -1,10 +1,10 @@
 -- The examples, by computation.
-use Rattle.std.proofs.Common.{◌≡◌, ℕ, zero, suc, ◌<◌, Bool, true, false, None, refl, inl, inr, arith}
+use Rattle.std.proofs.Common.{ℕ, zero, suc, ◌<◌, Bool, true, false, None, refl, inl, inr, arith}
 use Rattle.circuit.specs.Gates.{literal, driven}
 use Rattle.circuit.specs.Netlists.{buffer}
 use Rattle.switching.specs.Lines.{Lines}
 use Rattle.switching.specs.Chips.{chip}
-use Rattle.switching.specs.Switching.{Step, Steps, rest, step, Turn, Turns, none, turn}
+use Rattle.switching.specs.Switching.{rest, step, Turn, none, turn}
 use Rattle.switching.specs.Histories.{start_lines, beginning, begun}
 use Rattle.switching.specs.Examples.{ExamplesHold, FewerTurnsFail}
 

@@ -1,5 +1,5 @@
 -- The functions of a chip's gates on values extend those on truth values.
-use Rattle.std.proofs.Common.{◌≡◌, ℕ, ◌+◌, ◌-◌, ◌<◌, ◌≤◌, Bool, true, false, cond, ltb, Option, refl, arith}
+use Rattle.std.proofs.Common.{◌≡◌, ◌+◌, ◌-◌, ◌≤◌, Bool, true, false, cond, ltb, Option, refl, arith}
 use Rattle.std.proofs.lemmas.Bool.{ltb-true, ltb-false}
 use Rattle.ternary.specs.declared.Value.{Value}
 use Rattle.ternary.specs.Values.{of, ◌⊑◌}

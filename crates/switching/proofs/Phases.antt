@@ -1,8 +1,8 @@
 -- Spreading rises and settling falls, and each comes to rest within as many passes as there are gates.
-use Rattle.std.proofs.Common.{◌≡◌, ℕ, zero, suc, ◌<◌, ◌≤◌, Bool, Some, None, Option, sym, refl, ap, ap₂, arith}
+use Rattle.std.proofs.Common.{◌≡◌, ℕ, zero, suc, ◌≤◌, Bool, Some, None, Option, sym, refl, ap₂, arith}
 use Rattle.ternary.specs.declared.Value.{Value}
 use Rattle.ternary.specs.declared.Value.TheVariants.{Zero, One, Two}
-use Rattle.ternary.specs.Values.{of, ◌⊑◌, same, unsettled, join}
+use Rattle.ternary.specs.Values.{of, ◌⊑◌, same, unsettled}
 use Rattle.ternary.proofs.Order.{⊑_trans, ⊑_antisym, ⊑-of-≡, join_left, join_right}
 use Rattle.circuit.specs.Chips.{seen}
 use Rattle.switching.specs.declared.Phase.{Phase}

@@ -1,11 +1,10 @@
 -- The theorem, put together.
 use Rattle.std.proofs.Common.{◌≡◌, ℕ, ◌+◌, ◌<◌, Bool, List, None, Option, sym, ◌∙◌, subst}
-use Rattle.ternary.specs.declared.Value.{Value}
 use Rattle.ternary.specs.Values.{of, ◌⊑◌}
 use Rattle.ternary.proofs.Order.{of_within}
 use Rattle.circuit.specs.declared.circuit.Circuit.{Circuit}
 use Rattle.circuit.specs.declared.site.Fault.{Fault}
-use Rattle.switching.specs.Lines.{Each, Lines, line}
+use Rattle.switching.specs.Lines.{Lines, line}
 use Rattle.switching.specs.Chips.{chip}
 use Rattle.switching.specs.Phases.{Idle}
 use Rattle.switching.specs.Histories.{Event, start_lines, Ends, after, value}

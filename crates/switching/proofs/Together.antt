@@ -1,8 +1,8 @@
 -- Every history has a run: the one in which all lines switch together. And steps after a turn belong to it.
 use Rattle.std.proofs.Common.{◌≡◌, ℕ, zero, suc, ◌<◌, Bool, ◌⊎◌, List, [], ◌∷◌, Some, None, Option, sym, refl, ◌∙◌, subst, inl, inr, arith}
-use Rattle.switching.specs.Lines.{Each, Lines}
+use Rattle.switching.specs.Lines.{Lines}
 use Rattle.switching.specs.Chips.{Chip}
-use Rattle.switching.specs.Switching.{Step, Steps, rest, step, Served, Turn, Turns, none, turn, Hold}
+use Rattle.switching.specs.Switching.{Steps, rest, step, Served, Turn, Turns, none, turn, Hold}
 use Rattle.switching.specs.Histories.{Event, vector, restart, beginning, Run, begun, held, anew}
 
 -- a free line takes its value, a stuck one stays

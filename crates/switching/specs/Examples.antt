@@ -3,7 +3,6 @@ use Rattle.std.specs.Prelude.{◌≡◌, ℕ, Bool, true, false, not, List, [], 
 use Rattle.ternary.specs.declared.Value.{Value}
 use Rattle.ternary.specs.declared.Value.TheVariants.{Zero, One, Two}
 use Rattle.ternary.specs.Values.{of}
-use Rattle.circuit.specs.declared.gate.Gate.{Gate}
 use Rattle.circuit.specs.declared.gate.Function.TheVariants.{Complex, CElement}
 use Rattle.circuit.specs.declared.netlist.Netlist.{Netlist}
 use Rattle.circuit.specs.declared.site.Site.TheVariants.{Stem, Pin}

@@ -9,7 +9,7 @@ use fault_set::set::FaultSet;
 
 /// Takes a part into an AND.
 pub fn and_in<S: FaultSet>(all: &mut Tracks<S>, part: &Tracks<S>)
-    ensures { (n : ℕ) → answers member all.new n ≡ by_tracks.both (answers member all.old n) (answers member part.now n) }
+    ensures { (n : ℕ) → answers S.member all.new n ≡ by_tracks.both (answers S.member all.old n) (answers S.member part.now n) }
 {
     both(&mut all.one, &part.one);
     either(&mut all.zero, &part.zero);
@@ -17,7 +17,7 @@ pub fn and_in<S: FaultSet>(all: &mut Tracks<S>, part: &Tracks<S>)
 
 /// Takes a part into an OR.
 pub fn or_in<S: FaultSet>(any: &mut Tracks<S>, part: &Tracks<S>)
-    ensures { (n : ℕ) → answers member any.new n ≡ by_tracks.either (answers member any.old n) (answers member part.now n) }
+    ensures { (n : ℕ) → answers S.member any.new n ≡ by_tracks.either (answers S.member any.old n) (answers S.member part.now n) }
 {
     either(&mut any.one, &part.one);
     both(&mut any.zero, &part.zero);
@@ -25,7 +25,7 @@ pub fn or_in<S: FaultSet>(any: &mut Tracks<S>, part: &Tracks<S>)
 
 /// Takes a part into a join: equal values stay, others make 2.
 pub fn join_in<S: FaultSet>(any: &mut Tracks<S>, part: &Tracks<S>)
-    ensures { (n : ℕ) → answers member any.new n ≡ joined (answers member any.old n) (answers member part.now n) }
+    ensures { (n : ℕ) → answers S.member any.new n ≡ joined (answers S.member any.old n) (answers S.member part.now n) }
 {
     either(&mut any.one, &part.one);
     either(&mut any.zero, &part.zero);
@@ -33,7 +33,7 @@ pub fn join_in<S: FaultSet>(any: &mut Tracks<S>, part: &Tracks<S>)
 
 /// NOT: the tracks swapped.
 pub fn inverted<S: FaultSet>(tracks: &Tracks<S>) -> Tracks<S>
-    ensures { (n : ℕ) → answers member result n ≡ by_tracks.invert (answers member tracks.now n) }
+    ensures { (n : ℕ) → answers S.member result n ≡ by_tracks.invert (answers S.member tracks.now n) }
 {
     Tracks {
         one: tracks.zero,
@@ -43,7 +43,7 @@ pub fn inverted<S: FaultSet>(tracks: &Tracks<S>) -> Tracks<S>
 
 /// The tracks, with yes on both where a circuit has yes on neither.
 pub fn mended<S: FaultSet>(tracks: &Tracks<S>) -> Tracks<S>
-    ensures { (n : ℕ) → answers member result n ≡ whole (answers member tracks.now n) }
+    ensures { (n : ℕ) → answers S.member result n ≡ whole (answers S.member tracks.now n) }
 {
     let mut one = turned(&tracks.zero);
     either(&mut one, &tracks.one);
@@ -54,7 +54,7 @@ pub fn mended<S: FaultSet>(tracks: &Tracks<S>) -> Tracks<S>
 
 /// The value 0 or 1 in every circuit; `like` only lends sets to begin with.
 pub fn fixed<S: FaultSet>(like: &Tracks<S>, bit: bool) -> Tracks<S>
-    ensures { (n : ℕ) → answers member result n ≡ by_tracks.const bit }
+    ensures { (n : ℕ) → answers S.member result n ≡ by_tracks.const bit }
 {
     Tracks {
         one: always(&like.one, bit),
@@ -66,8 +66,8 @@ pub fn fixed<S: FaultSet>(like: &Tracks<S>, bit: bool) -> Tracks<S>
 /// Public only for the layers above, which go through the faults of a job.
 pub fn hold_at<S: FaultSet>(tracks: &mut Tracks<S>, n: u8, bit: bool)
     requires { n < 192 }
-    ensures there { answers member tracks.new n ≡ by_tracks.const bit }
-    ensures rest { (k : ℕ) → (k ≢ n) → answers member tracks.new k ≡ answers member tracks.old k }
+    ensures there { answers S.member tracks.new n ≡ by_tracks.const bit }
+    ensures rest { (k : ℕ) → (k ≢ n) → answers S.member tracks.new k ≡ answers S.member tracks.old k }
 {
     hold(&mut tracks.one, n, bit);
     hold(&mut tracks.zero, n, !bit);

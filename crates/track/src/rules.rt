@@ -8,7 +8,7 @@ use fault_set::set::FaultSet;
 
 /// The all-rule for two parts: yes where both say yes.
 pub fn both<S: FaultSet>(all: &mut Track<S>, part: &Track<S>)
-    ensures { (n : ℕ) → answer member all.new n ≡ (answer member all.old n && answer member part.now n) }
+    ensures { (n : ℕ) → answer S.member all.new n ≡ (answer S.member all.old n && answer S.member part.now n) }
 {
     match (all.good, part.good) {
         (true, true) => all.differ.unite(&part.differ),
@@ -27,7 +27,7 @@ pub fn both<S: FaultSet>(all: &mut Track<S>, part: &Track<S>)
 
 /// The any-rule for two parts: yes where either says yes.
 pub fn either<S: FaultSet>(any: &mut Track<S>, part: &Track<S>)
-    ensures { (n : ℕ) → answer member any.new n ≡ (answer member any.old n || answer member part.now n) }
+    ensures { (n : ℕ) → answer S.member any.new n ≡ (answer S.member any.old n || answer S.member part.now n) }
 {
     match (any.good, part.good) {
         (false, false) => any.differ.unite(&part.differ),
@@ -43,7 +43,7 @@ pub fn either<S: FaultSet>(any: &mut Track<S>, part: &Track<S>)
 
 /// Every answer turned round.
 pub fn turned<S: FaultSet>(track: &Track<S>) -> Track<S>
-    ensures { (n : ℕ) → answer member result n ≡ not (answer member track.now n) }
+    ensures { (n : ℕ) → answer S.member result n ≡ not (answer S.member track.now n) }
 {
     Track {
         good: !track.good,
@@ -53,7 +53,7 @@ pub fn turned<S: FaultSet>(track: &Track<S>) -> Track<S>
 
 /// The same answer for every circuit; `like` only lends a set to begin with.
 pub fn always<S: FaultSet>(like: &Track<S>, yes: bool) -> Track<S>
-    ensures { (n : ℕ) → answer member result n ≡ yes }
+    ensures { (n : ℕ) → answer S.member result n ≡ yes }
 {
     let mut differ = like.differ;
     differ.clear();
@@ -64,8 +64,8 @@ pub fn always<S: FaultSet>(like: &Track<S>, yes: bool) -> Track<S>
 /// Public only for the layers above, which go through the faults of a job.
 pub fn hold<S: FaultSet>(track: &mut Track<S>, n: u8, yes: bool)
     requires { n < 192 }
-    ensures there { answer member track.new n ≡ yes }
-    ensures rest { (k : ℕ) → (k ≢ n) → answer member track.new k ≡ answer member track.old k }
+    ensures there { answer S.member track.new n ≡ yes }
+    ensures rest { (k : ℕ) → (k ≢ n) → answer S.member track.new k ≡ answer S.member track.old k }
 {
     if track.good == yes {
         track.differ.remove(n);

@@ -7,7 +7,7 @@ use fault_set::set::FaultSet;
 
 /// Whether two tracks have the same answer in every circuit.
 pub fn alike<S: FaultSet>(a: &Track<S>, b: &Track<S>) -> bool
-    ensures { Decides result ((n : ℕ) → answer member a.now n ≡ answer member b.now n) }
+    ensures { Decides result ((n : ℕ) → answer S.member a.now n ≡ answer S.member b.now n) }
 {
     if a.good != b.good {
         return false;
@@ -17,7 +17,7 @@ pub fn alike<S: FaultSet>(a: &Track<S>, b: &Track<S>) -> bool
 
 /// Whether every circuit has the same two answers in both.
 pub fn same_tracks<S: FaultSet>(a: &Tracks<S>, b: &Tracks<S>) -> bool
-    ensures { Decides result ((n : ℕ) → answers member a.now n ≡ answers member b.now n) }
+    ensures { Decides result ((n : ℕ) → answers S.member a.now n ≡ answers S.member b.now n) }
 {
     let one = alike(&a.one, &b.one);
     let zero = alike(&a.zero, &b.zero);

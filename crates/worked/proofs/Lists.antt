@@ -1,5 +1,5 @@
 -- What a circuit says of lists goes through a gate.
-use Rattle.std.proofs.Common.{◌≡◌, ℕ, Bool, true, false, not, ◌&&◌, ◌||◌, List, [], ◌∷◌, refl, ap, ◌∙◌, ap₂}
+use Rattle.std.proofs.Common.{◌≡◌, ℕ, Bool, true, false, ◌&&◌, ◌||◌, [], ◌∷◌, refl, ap, ◌∙◌, ap₂}
 use Rattle.ternary.specs.Logics.{Tracks as Pair, by_tracks}
 use Rattle.ternary.proofs.Keeps.{Keeps}
 use Rattle.circuit.proofs.Kept.{driven_keeps}

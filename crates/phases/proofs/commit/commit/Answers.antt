@@ -1,10 +1,10 @@
-use Rattle.std.proofs.Common.{◌≡◌, ℕ, ◌+◌, ◌<◌, List, sym, ◌∙◌, subst₂, arith}
+use Rattle.std.proofs.Common.{◌≡◌, ℕ, ◌+◌, List, sym, ◌∙◌, subst₂, arith}
 use Rattle.track.specs.declared.table.Line.{Line}
 use Rattle.phases.specs.declared.changes.Changes.{Changes}
 use Rattle.phases.specs.Reads.{changed_at, read_by}
 use Rattle.phases.proofs.Gates.{Committed, commits_begin, none_committed, one_committed}
 use Rattle.phases.proofs.commit.commit.Goals as goal
-use Rattle.phases.proofs.commit.commit.Goals.{then-read-by, else-read-by}
+use Rattle.phases.proofs.commit.commit.Goals.{then-read_by, else-read_by}
 
 pub loop-k-init : goal.loop-k-init
 loop-k-init g c =
@@ -17,12 +17,12 @@ loop-k-preserved g c =
     let read = read_by (changed_at c.args.changes.now.line) c.args.circuit.now.netlist in
     let first = c.args.lines.now in
     elim c.if-read_by.branch [
-      | then-read-by w ↦ subst₂ (λ (ls : List (Line g.row.S.Denot)) (nx : Changes). Committed m P read first (c.loop-k.k + 1) ls nx.line nx.idle) (sym w.lines-is) (sym w.next-is)
+      | then-read_by w ↦ subst₂ (λ (ls : List (Line g.row.S.Denot)) (nx : Changes). Committed m P read first (c.loop-k.k + 1) ls nx.line nx.idle) (sym w.lines-is) (sym w.next-is)
           (one_committed m P read first c.loop-k.k c.loop-k.lines c.loop-k.next.line c.loop-k.next.idle c.loop-k.invariant
           w.commit_line-same.new.lines w.note.new.self.line w.note.new.self.idle w.commit_line-same.result
           (sym c.read_by.ensures ∙ w.if-read_by.true) (omega (arith, c.inputs-inputs.ensures, c.gates-k-end.ensures)) (omega arith)
           w.commit_line-same.ensures.rows w.commit_line-same.ensures.same w.note.ensures.here w.note.ensures.others w.note.ensures.idle)
-      | else-read-by w ↦ subst₂ (λ (ls : List (Line g.row.S.Denot)) (nx : Changes). Committed m P read first (c.loop-k.k + 1) ls nx.line nx.idle) (sym w.lines-is) (sym w.next-is)
+      | else-read_by w ↦ subst₂ (λ (ls : List (Line g.row.S.Denot)) (nx : Changes). Committed m P read first (c.loop-k.k + 1) ls nx.line nx.idle) (sym w.lines-is) (sym w.next-is)
           (none_committed m P read first c.loop-k.k c.loop-k.lines c.loop-k.next.line c.loop-k.next.idle c.loop-k.invariant (sym c.read_by.ensures ∙ w.if-read_by.false))
     ]
 

@@ -1,4 +1,4 @@
-use Rattle.std.proofs.Common.{◌≡◌, ℕ, ◌<◌, length, set, sym, ◌∙◌, ap₂, arith}
+use Rattle.std.proofs.Common.{ℕ, ◌<◌, length, set, sym, ◌∙◌, ap₂, arith}
 use Rattle.std.proofs.lemmas.List.{get_or_default}
 use Rattle.std.proofs.lemmas.Bool.Decides.{Decides-like}
 use Rattle.track.specs.declared.table.Line.{Line}

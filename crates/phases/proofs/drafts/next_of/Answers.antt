@@ -1,8 +1,8 @@
-use Rattle.std.proofs.Common.{◌≡◌, ℕ, ◌+◌, sym, ap, ◌∙◌, ap₂}
+use Rattle.std.proofs.Common.{ℕ, ◌+◌, sym, ap, ◌∙◌, ap₂}
 use Rattle.ternary.specs.Logics.{tracks}
 use Rattle.track.specs.Answers.{joined, value}
 use Rattle.step.specs.Rows.{held_at}
-use Rattle.step.proofs.Gates.{held_tracks}
+use Rattle.step.proofs.Looks.{held_tracks}
 use Rattle.switching.specs.declared.Phase.{Phase}
 use Rattle.switching.specs.Phases.{taken, target}
 use Rattle.phases.specs.Passes.{numbered, values_of}

@@ -1,4 +1,4 @@
-use Rattle.std.proofs.Common.{◌≡◌, ℕ, ◌+◌, ◌<◌, List, sym, ap, ◌∙◌, subst, subst₂, arith}
+use Rattle.std.proofs.Common.{◌≡◌, ℕ, ◌+◌, List, sym, ap, ◌∙◌, subst, subst₂, arith}
 use Rattle.ternary.specs.declared.Value.{Value}
 use Rattle.ternary.specs.Logics.{tracks}
 use Rattle.switching.specs.Lines.{Lines}
@@ -10,7 +10,7 @@ use Rattle.phases.proofs.Gates.{Drafted, drafts_begin, none_drafted, one_drafted
 use Rattle.step.specs.declared.rows.Reading.TheVariants.{Whole}
 use Rattle.phases.proofs.Rows.{reading_same, readable_same}
 use Rattle.phases.proofs.drafts.write_drafts.Goals as goal
-use Rattle.phases.proofs.drafts.write_drafts.Goals.{then-read-by, else-read-by}
+use Rattle.phases.proofs.drafts.write_drafts.Goals.{then-read_by, else-read_by}
 
 pub loop-k-init : goal.loop-k-init
 loop-k-init g c = drafts_begin g.S.FaultSet.member c.inputs-inputs.result (read_by (changed_at c.args.changes.now.line) c.args.circuit.now.netlist) c.args.lines.now _
@@ -24,11 +24,11 @@ loop-k-preserved g c =
     let v = next_of m c.args.circuit.now c.args.index.now.list c.args.phase first in
     let same = reading_same m c.args.circuit.now.netlist.inputs c.loop-k.lines first c.loop-k.invariant.held in
     elim c.if-read_by.branch [
-      | then-read-by w ↦ subst (λ (ls : List (Line g.row.S.Denot)). Drafted m P read first v (c.loop-k.k + 1) ls) (sym w.lines-is)
+      | then-read_by w ↦ subst (λ (ls : List (Line g.row.S.Denot)). Drafted m P read first v (c.loop-k.k + 1) ls) (sym w.lines-is)
           (one_drafted m P read first v c.loop-k.k c.loop-k.lines c.loop-k.invariant w.put_draft.new.lines w.next_of-next.result
           (sym c.read_by.ensures ∙ w.if-read_by.true) (omega (arith, c.inputs-inputs.ensures, c.gates-k-end.ensures, c.requires.rows.room)) w.put_draft.ensures
           (λ n. w.next_of-next.ensures n ∙ ap (λ (A : Lines Value). tracks (taken c.args.phase (A.gate c.loop-k.k) (target (numbered c.args.circuit.now c.args.index.now.list n) A c.loop-k.k))) (same n)))
-      | else-read-by w ↦ subst (λ (ls : List (Line g.row.S.Denot)). Drafted m P read first v (c.loop-k.k + 1) ls) (sym w.lines-is)
+      | else-read_by w ↦ subst (λ (ls : List (Line g.row.S.Denot)). Drafted m P read first v (c.loop-k.k + 1) ls) (sym w.lines-is)
           (none_drafted m P read first v c.loop-k.k c.loop-k.lines c.loop-k.invariant (sym c.read_by.ensures ∙ w.if-read_by.false))
     ]
 

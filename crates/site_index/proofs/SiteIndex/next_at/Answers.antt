@@ -3,7 +3,7 @@ use Rattle.site_index.proofs.Leading.{leads, sits_below}
 use Rattle.site_index.proofs.SiteIndex.next_at.Goals as goal
 
 pub bounds-self-n : goal.bounds-self-n
-bounds-self-n c = sits_below c.args.self.now.list c.args.site c.args.n c.requires.1
+bounds-self-n c = omega (arith, sits_below c.args.self.now.list c.args.site c.args.n c.requires.1)
 
 pub returns : goal.returns
 returns c =

@@ -9,4 +9,4 @@ pub loop-n-preserved-in-Some : goal.loop-n-preserved-in-Some
 loop-n-preserved-in-Some c = right_more _ _ _ _ c.loop-n-test.true (omega arith) c.loop-n.invariant c.in-Some.place (sym c.fault_place.ensures ∙ c.in-Some.is)
 
 pub loop-n-preserved : goal.loop-n-preserved
-loop-n-preserved c = right_still _ _ _ _ c.loop-n-test.true (omega arith) c.loop-n.invariant (sym c.fault_place.ensures ∙ c.in-default.is)
+loop-n-preserved c = right_still _ _ _ _ c.loop-n-test.true (omega arith) c.loop-n.invariant (sym c.fault_place.ensures ∙ c.in_default.is)

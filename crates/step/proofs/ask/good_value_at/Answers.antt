@@ -1,4 +1,4 @@
-use Rattle.std.proofs.Common.{◌≡◌, get_or, sym, ap, ◌∙◌, arith}
+use Rattle.std.proofs.Common.{get_or, sym, ap, ◌∙◌, arith}
 use Rattle.track.specs.declared.table.Line.{Line}
 use Rattle.track.specs.Answers.{goods, whole, value}
 use Rattle.step.specs.Rows.{unknown}

@@ -1,4 +1,4 @@
-use Rattle.std.proofs.Common.{◌≡◌, get_or, sym, ap, ◌∙◌, ap₂, arith}
+use Rattle.std.proofs.Common.{get_or, sym, ap, ◌∙◌, ap₂, arith}
 use Rattle.track.specs.declared.table.Line.{Line}
 use Rattle.track.specs.Answers.{answer, answers, whole, value, meaning}
 use Rattle.step.specs.Rows.{unknown}

@@ -1,6 +1,5 @@
 use Rattle.std.proofs.Common.{◌≡◌, get_or, sym, ap, ◌∙◌, ap₂, arith}
 use Rattle.ternary.specs.Logics.{by_tracks}
-use Rattle.circuit.specs.Gates.{product}
 use Rattle.circuit.specs.Netlists.{gate_at}
 use Rattle.track.specs.Answers.{answers}
 use Rattle.step.specs.Pins.{pin_reads}

@@ -1,6 +1,6 @@
 use Rattle.std.proofs.Common.{sym, ◌∙◌, rules}
 use Rattle.track.specs.declared.table.Line.{Line}
-use Rattle.track.specs.Answers.{answers, whole}
+use Rattle.track.specs.Answers.{answers}
 use Rattle.step.specs.Rows.{unknown}
 use Rattle.step.proofs.Looks.{look_read}
 use Rattle.step.proofs.rows.held.Goals as goal

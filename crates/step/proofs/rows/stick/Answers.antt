@@ -1,4 +1,4 @@
-use Rattle.std.proofs.Common.{◌≡◌, ap, ◌∙◌, arith}
+use Rattle.std.proofs.Common.{ap, ◌∙◌, arith}
 use Rattle.ternary.specs.Logics.{by_tracks}
 use Rattle.circuit.specs.declared.site.FaultList.{FaultList}
 use Rattle.circuit.specs.Netlists.{fault_at}

@@ -1,4 +1,4 @@
-use Rattle.std.proofs.Common.{ℕ, ◌-◌}
+use Rattle.std.proofs.Common.{◌-◌}
 use Rattle.ternary.specs.Logics.{by_tracks}
 use Rattle.track.specs.Answers.{answers}
 use Rattle.step.proofs.Sticking.{StuckBelow}

@@ -1,4 +1,4 @@
-use Rattle.std.proofs.Common.{◌≡◌, Bool, ◌||◌, ap, add-one}
+use Rattle.std.proofs.Common.{Bool, ◌||◌, ap, add-one}
 use Rattle.circuit.specs.Netlists.{pin_at}
 use Rattle.phases.specs.Reads.{changed_at}
 use Rattle.phases.proofs.changes.Changes.read_by_pins.Goals as goal

@@ -18,7 +18,7 @@ use Rattle.field.specs.Fields.{admits, byte_of}
 use Rattle.field.specs.Rows.{row_of, low_bits}
 use Rattle.field.proofs.Steps.{bounds_kept}
 use Rattle.format.specs.Descriptions.{ExactFunction, ExactGate}
-use Rattle.format.specs.Written.{map_of, given, is_complex, bytes_of_product, GateWritten, GatesWritten, none as no-gates, more as more-gates}
+use Rattle.format.specs.Written.{map_of, given, is_complex, bytes_of_product, GateWritten, GatesWritten, none as no_gates, more as more_gates}
 use Rattle.format.specs.Reading.{optional, complex_of, c_element_of, opening_of, gate_of, gates_of}
 use Rattle.format.proofs.Bytes.{count_taken, place_taken, map_low, map_high, map_admitted, map_flags}
 use Rattle.format.proofs.Readers.{Fits, ByteStands, byte_fits, Both, next_fits, fits_like, Last, last_fits, Perhaps, optional_fits, Chain, none, more, many_fits, RowStands, row_fits}
@@ -331,13 +331,13 @@ EachGate lines = All (λ g. LawfulGate lines g × ExactGate g)
 
 -- gates read one after the other are lawful, and so written
 chain_gates : (lines : ℕ) {before gates : List Gate} {bytes : List ℕ} → Chain (λ done. GateStands lines) before gates bytes → EachGate lines gates × GatesWritten gates bytes
-chain_gates lines none = (tt, no-gates)
-chain_gates lines (more h c) = let w = chain_gates lines c in (((h.0, h.1), w.0), more-gates h.2 w.1)
+chain_gates lines none = (tt, no_gates)
+chain_gates lines (more h c) = let w = chain_gates lines c in (((h.0, h.1), w.0), more_gates h.2 w.1)
 
 -- and lawful gates so written are read one after the other
 gates_chain : (lines : ℕ) (before : List Gate) {gates : List Gate} {bytes : List ℕ} → EachGate lines gates → GatesWritten gates bytes → Chain (λ done. GateStands lines) before gates bytes
-gates_chain lines before each no-gates = none
-gates_chain lines before each (more-gates {g = g} w ws) = more (each.0.0, each.0.1, w) (gates_chain lines (before ++ g ∷ []) each.1 ws)
+gates_chain lines before each no_gates = none
+gates_chain lines before each (more_gates {g = g} w ws) = more (each.0.0, each.0.1, w) (gates_chain lines (before ++ g ∷ []) each.1 ws)
 
 -- so many lawful gates over their bytes
 abbrev pub GatesStand : ℕ → ℕ → List Gate → List ℕ → Type 0

@@ -45,7 +45,7 @@ pub record GateWritten (g : Gate) (bytes : List ℕ) : Type 0 where
 -- gates, one record after the other
 pub data GatesWritten : List Gate → List ℕ → Type 0 where
   none : GatesWritten [] []
-  more : {g : Gate} {gates : List Gate} {record-bytes rest : List ℕ} → GateWritten g record-bytes → GatesWritten gates rest → GatesWritten (g ∷ gates) (record-bytes ++ rest)
+  more : {g : Gate} {gates : List Gate} {record_bytes rest : List ℕ} → GateWritten g record_bytes → GatesWritten gates rest → GatesWritten (g ∷ gates) (record_bytes ++ rest)
 
 -- start values: line n in byte n div 8, bit n mod 8, spare bits 0
 pub record StartWritten (lines : ℕ) (start : List Bool) (bytes : List ℕ) : Type 0 where

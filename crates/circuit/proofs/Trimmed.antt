@@ -3,8 +3,6 @@ use Rattle.std.proofs.Common.{◌≡◌, ℕ, zero, suc, ◌+◌, ◌-◌, ◌<�
 use mathlib.Core.Bool.{false≢true}
 use Rattle.std.proofs.lemmas.List.{get_or-take}
 use Rattle.std.proofs.lemmas.Bool.{cases_eq, leb-true, ltb-true}
-use Rattle.ternary.specs.Logics.{Logic}
-use Rattle.ternary.proofs.Keeps.{equal_kept}
 use Rattle.circuit.specs.declared.gate.Sum.{Sum}
 use Rattle.circuit.specs.declared.gate.Function.{Function}
 use Rattle.circuit.specs.declared.gate.Function.TheVariants.{Complex, CElement}
@@ -12,10 +10,9 @@ use Rattle.circuit.specs.declared.gate.Gate.{Gate}
 use Rattle.circuit.specs.declared.netlist.Netlist.{Netlist}
 use Rattle.circuit.specs.declared.site.Site.{Site}
 use Rattle.circuit.specs.declared.site.Site.TheVariants.{Stem, Pin}
-use Rattle.circuit.specs.Gates.{sum, function_of, driven}
+use Rattle.circuit.specs.Gates.{Logic, bit, literal, product, sum, all, hold, function_of, driven}
 use Rattle.circuit.specs.Netlists.{gate_at, pin_at, pins_of, least_pins, products, used_at, inverted_at, driven_by, same, Rests, AtRest, restless_from, restless, LawfulGate, Lawful}
 use Rattle.circuit.specs.Netlists.{trimmed_function, trimmed_gate, trimmed, sited}
-use Rattle.circuit.proofs.Kept.{driven_keeps}
 
 -- a gate of the trimmed table is the trimmed gate of the table
 pub gate_at_trimmed : (gs : List Gate) (n k : ℕ) → k < n → gate_at (map trimmed_gate (take n gs)) k ≡ trimmed_gate (gate_at gs k)
@@ -81,8 +78,48 @@ lawful_from_trimmed n law =
 
 -- What a gate drives depends on its pins only, and on the masks that it needs.
 module _ {A : Type 0} (L : Logic A) where
+  literal_same : (pin pin' : ℕ → A) (inverted j : ℕ) → pin j ≡ pin' j → literal L pin inverted j ≡ literal L pin' inverted j
+  unfolding literal
+  literal_same pin pin' inverted j e = ap (λ (x : A). cond (bit inverted j) (L.invert x) x) e
+
+  product_same : (pin pin' : ℕ → A) (used inverted n : ℕ) → ((j : ℕ) → j < n → pin j ≡ pin' j) → product L pin used inverted n ≡ product L pin' used inverted n
+  product_same pin pin' used inverted zero h = refl
+  product_same pin pin' used inverted (suc n) h =
+      let e = product_same pin pin' used inverted n (λ j l. h j (omega arith)) in
+      let f = literal_same pin pin' inverted n (h n (omega arith)) in
+      cc
+
+  sum_same : (pin pin' : ℕ → A) (pins : ℕ) (s : Sum) (n : ℕ) → ((j : ℕ) → j < pins → pin j ≡ pin' j) → sum L pin pins s n ≡ sum L pin' pins s n
+  sum_same pin pin' pins s zero h = refl
+  sum_same pin pin' pins s (suc n) h =
+      let e = sum_same pin pin' pins s n h in
+      let f = product_same pin pin' (get_or s.used n 0) (get_or s.inverted n 0) pins h in
+      cc
+
+  all_same : (pin pin' : ℕ → A) (inverted n : ℕ) → ((j : ℕ) → j < n → pin j ≡ pin' j) → all L pin inverted n ≡ all L pin' inverted n
+  all_same pin pin' inverted zero h = refl
+  all_same pin pin' inverted (suc n) h =
+      let e = all_same pin pin' inverted n (λ j l. h j (omega arith)) in
+      let f = literal_same pin pin' inverted n (h n (omega arith)) in
+      cc
+
+  hold_same : (pin pin' : ℕ → A) (own : A) (inverted n : ℕ) → ((j : ℕ) → j < n → pin j ≡ pin' j) → hold L pin own inverted n ≡ hold L pin' own inverted n
+  hold_same pin pin' own inverted zero h = refl
+  hold_same pin pin' own inverted (suc n) h =
+      let e = hold_same pin pin' own inverted n (λ j l. h j (omega arith)) in
+      let f = literal_same pin pin' inverted n (h n (omega arith)) in
+      cc
+
+  function_same : (pin pin' : ℕ → A) (own : A) (pins : ℕ) (f : Function) → ((j : ℕ) → j < pins → pin j ≡ pin' j) → function_of L pin own pins f ≡ function_of L pin' own pins f
+  function_same pin pin' own pins (Complex s) h = sum_same pin pin' pins s s.products h
+  function_same pin pin' own pins (CElement inverted) h =
+      let e = all_same pin pin' inverted pins h in
+      let f = hold_same pin pin' own inverted pins h in
+      cc
+
   pub driven_same : (g : Gate) (pin pin' : ℕ → A) (own : A) → ((j : ℕ) → j < g.pins → pin j ≡ pin' j) → driven L g pin own ≡ driven L g pin' own
-  driven_same g pin pin' own h = driven_keeps (equal_kept L) g pin pin' h own own refl
+  unfolding driven
+  driven_same g pin pin' own h = function_same pin pin' own g.pins g.function h
 
   sum_trimmed : (pin : ℕ → A) (pins m : ℕ) (s : Sum) (n : ℕ) → n ≤ m → sum L pin pins (record { products = m; used = take m s.used; inverted = take m s.inverted }) n ≡ sum L pin pins s n
   sum_trimmed pin pins m s zero h = refl

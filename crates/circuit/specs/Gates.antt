@@ -1,6 +1,6 @@
 -- What a gate computes, over any logic: its pins' values and the value of its own line give the value that it drives.
 use Rattle.std.specs.Prelude.{ℕ, zero, suc, ◌-◌, ◌/◌, ◌%◌, ◌^◌, Bool, true, false, cond, ◌==◌, slice_index}
-use Rattle.ternary.specs.Logics.{Logic}
+pub use Rattle.ternary.specs.Logics.{Logic, two_valued}
 use Rattle.circuit.specs.declared.gate.Sum.{Sum}
 use Rattle.circuit.specs.declared.gate.Function.{Function}
 use Rattle.circuit.specs.declared.gate.Function.TheVariants.{Complex, CElement}

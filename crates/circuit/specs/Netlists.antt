@@ -1,6 +1,5 @@
 -- What makes a netlist a lawful circuit, by the places of its tables.
 use Rattle.std.specs.Prelude.{◌≡◌, ℕ, zero, suc, ◌+◌, ◌-◌, ◌^◌, ◌<◌, ◌≤◌, Bool, true, false, cond, not, ◌&&◌, List, [], ◌∷◌, map, take, Some, None, Option, bit_and, nat_le, nat_lt, slice_index, slice_index_or}
-use Rattle.ternary.specs.Logics.{two_valued}
 use Rattle.circuit.specs.declared.gate.Sum.{Sum}
 use Rattle.circuit.specs.declared.gate.Function.{Function}
 use Rattle.circuit.specs.declared.gate.Function.TheVariants.{Complex, CElement}
@@ -9,7 +8,7 @@ use Rattle.circuit.specs.declared.netlist.Netlist.{Netlist}
 use Rattle.circuit.specs.declared.site.Site.{Site}
 use Rattle.circuit.specs.declared.site.Site.TheVariants.{Stem, Pin}
 use Rattle.circuit.specs.declared.site.Fault.{Fault}
-use Rattle.circuit.specs.Gates.{all_pins, driven}
+use Rattle.circuit.specs.Gates.{two_valued, all_pins, driven}
 
 -- what is read past the end of a table
 abbrev pub no_sum : Sum

@@ -1,7 +1,6 @@
 // The function of a gate, on truth values.
 ghost use Rattle.std.specs.Prelude.{◌≡◌, ℕ, ◌<◌, ◌≤◌, slice_index};
-ghost use Rattle.ternary.specs.Logics.{two_valued};
-ghost use Rattle.circuit.specs.Gates.{bit, literal, product, sum, function_of};
+ghost use Rattle.circuit.specs.Gates.{two_valued, bit, literal, product, sum, function_of};
 ghost use Rattle.circuit.specs.Netlists.{pin_at, pins_of, products, driven_by};
 
 use crate::gate::{Function, Gate, Sum};

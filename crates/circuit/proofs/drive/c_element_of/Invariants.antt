@@ -1,6 +1,5 @@
 use Rattle.std.proofs.Common.{◌≡◌}
-use Rattle.ternary.specs.Logics.{two_valued}
-use Rattle.circuit.specs.Gates.{all, hold}
+use Rattle.circuit.specs.Gates.{two_valued, all, hold}
 use Rattle.circuit.specs.Netlists.{pins_of}
 use Rattle.circuit.proofs.drive.c_element_of.Given as goal
 

@@ -1,6 +1,5 @@
 use Rattle.std.proofs.Common.{◌≡◌}
-use Rattle.ternary.specs.Logics.{two_valued}
-use Rattle.circuit.specs.Gates.{product}
+use Rattle.circuit.specs.Gates.{two_valued, product}
 use Rattle.circuit.specs.Netlists.{pins_of}
 use Rattle.circuit.proofs.drive.product_of.Given as goal
 

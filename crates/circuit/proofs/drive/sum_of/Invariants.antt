@@ -1,6 +1,5 @@
 use Rattle.std.proofs.Common.{◌≡◌}
-use Rattle.ternary.specs.Logics.{two_valued}
-use Rattle.circuit.specs.Gates.{sum}
+use Rattle.circuit.specs.Gates.{two_valued, sum}
 use Rattle.circuit.specs.Netlists.{pins_of}
 use Rattle.circuit.proofs.drive.sum_of.Given as goal
 

@@ -4,6 +4,8 @@
 ghost use Rattle.std.specs.Prelude.{◌≡◌};
 ghost use Rattle.ternary.specs.Values.{of, and₃, or₃, not₃, join};
 
+pub mod signal;
+
 /// 0, 1, or 2 for a line that has not settled.
 #[derive(Clone, Copy, PartialEq, Eq, Debug)]
 pub enum Value {
@@ -12,14 +14,16 @@ pub enum Value {
     Two,
 }
 
-impl Value {
-    /// 1 for true, 0 for false.
-    pub fn of(bit: bool) -> Value
-        ensures { result ≡ of bit }
-    {
+/// 1 for true, 0 for false.
+impl From<bool> for Value {
+    ghost from_gives = { λ bit r. r ≡ of bit };
+
+    fn from(bit: bool) -> Value {
         if bit { Value::One } else { Value::Zero }
     }
+}
 
+impl Value {
     /// 0 if a part is 0, 1 if both are 1, else 2.
     pub fn and(self, other: Value) -> Value
         ensures { result ≡ and₃ self other }

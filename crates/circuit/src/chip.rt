@@ -29,7 +29,7 @@ pub fn seen_at(fault: Option<Fault>, site: Site, value: Value) -> Value
         None => value,
         Some(f) => {
             if one_site(f.site, site) {
-                Value::of(f.stuck)
+                Value::from(f.stuck)
             } else {
                 value
             }

@@ -1,6 +1,5 @@
 // The job that is lent to a reading: left as it was by a refusal, and written over by a job.
 use crate::lists::check_list;
-use crate::outcome::Outcome::Accepted;
 use crate::outcome::{accepted, check_counts};
 use circuit::site::Fault;
 use circuit::site::Site::{Pin, Stem};
@@ -37,7 +36,7 @@ const BAD: [(&str, &[u8]); 7] = [
 
 // Checks that a job is the one of the good file.
 fn check_good(rt: &impl Abort, name: &str, job: &Job) -> Result<(), Fail> {
-    check_counts(rt, name, job, Accepted(2, 1, 1, 2));
+    check_counts(rt, name, job, (2, 1, 1, 2));
     check_list(rt, name, job.faults(), &ITS_FAULTS)?;
     assert!(rt; job.circuit().netlist().start[2], "{name}");
     Ok(())
@@ -61,9 +60,9 @@ fn kept_by_a_refusal(rt: HostRuntime) -> Result<(), Fail> {
 #[test]
 fn written_over_by_a_job(rt: HostRuntime) -> Result<(), Fail> {
     let mut job = Job::built_in();
-    check_counts(&rt, "built in", &job, Accepted(1, 1, 1, 1));
+    check_counts(&rt, "built in", &job, (1, 1, 1, 1));
     read(&[0, 1, 2, 1, 1, 0, 2, 0, 2, 1, 1, 0, 1, 1], &mut job)?;
-    check_counts(&rt, "two gates", &job, Accepted(1, 2, 1, 12));
+    check_counts(&rt, "two gates", &job, (1, 2, 1, 12));
     read(&GOOD, &mut job)?;
     check_good(&rt, "the good file", &job)
 }

@@ -24,17 +24,13 @@ fn check_refused(
     layer: u8,
     place: usize,
 ) -> Result<(), Fail> {
-    match read(file, &mut Job::built_in()) {
-        Ok(()) => Err(Fail::new("accepted")),
-        Err(fault) => {
-            let fault = GradingFault::from(fault);
-            assert_eq!(rt;
-                (fault.number(), fault.layer(), fault.place()),
-                (number, layer, place)
-            );
-            Ok(())
-        }
-    }
+    let refused = read(file, &mut Job::built_in()).err().ok_or("accepted")?;
+    let fault = GradingFault::from(refused);
+    assert_eq!(rt;
+        (fault.number(), fault.layer(), fault.place()),
+        (number, layer, place)
+    );
+    Ok(())
 }
 
 #[test]
@@ -42,5 +38,5 @@ fn grounds(rt: HostRuntime) -> Result<(), Fail> {
     for (file, number, layer, place) in &GROUNDS {
         check_refused(&rt, file, *number, *layer, *place)?;
     }
-    check_refused(&rt, c_elements(0, &[], 10, 7).bytes(), 6, 2, 194)
+    check_refused(&rt, &c_elements(rt.alloc(), 0, &[], 10, 7)?, 6, 2, 194)
 }

@@ -5,12 +5,11 @@ use refusal::CircuitFault;
 use std::process::Abort;
 use std::test::Fail;
 
-/// A refusal, or how many inputs, gates, outputs and faults the job has that was read.
-#[derive(Clone, Copy, PartialEq, Eq, Debug)]
-pub(crate) enum Outcome {
-    Refused(CircuitFault),
-    Accepted(u8, u8, u8, u8),
-}
+/// How many inputs, gates, outputs and faults a job has.
+pub(crate) type Counts = (u8, u8, u8, u8);
+
+/// The counts of the job that was read, or its refusal.
+pub(crate) type Outcome = Result<Counts, CircuitFault>;
 
 /// A name, a file and what reading it gives.
 pub(crate) type Case = (&'static str, &'static [u8], Outcome);
@@ -23,24 +22,22 @@ pub(crate) fn accepted(file: &[u8]) -> Result<Job, Fail> {
 }
 
 // The counts of a job.
-fn counts(job: &Job) -> Outcome {
+fn counts(job: &Job) -> Counts {
     let netlist = job.circuit().netlist();
     let faults = job.faults();
-    Outcome::Accepted(netlist.inputs, netlist.gates, netlist.outputs, faults.count)
+    (netlist.inputs, netlist.gates, netlist.outputs, faults.count)
 }
 
 /// Checks the counts of a job.
-pub(crate) fn check_counts(rt: &impl Abort, name: &str, job: &Job, expected: Outcome) {
+pub(crate) fn check_counts(rt: &impl Abort, name: &str, job: &Job, expected: Counts) {
     assert_eq!(rt; counts(job), expected, "{name}");
 }
 
 // What reading a file gives.
 fn tried(file: &[u8]) -> Outcome {
     let mut job = Job::built_in();
-    match read(file, &mut job) {
-        Ok(()) => counts(&job),
-        Err(fault) => Outcome::Refused(fault),
-    }
+    read(file, &mut job)?;
+    Ok(counts(&job))
 }
 
 /// Tries one file.

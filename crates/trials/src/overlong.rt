@@ -1,6 +1,4 @@
 // Bytes after the last field: the first of them is named, however many there are.
-use crate::build::Draft;
-use crate::outcome::Outcome::Refused;
 use crate::outcome::{Case, try_all, try_one};
 use refusal::CircuitFault::File;
 use refusal::FileFault::{Overlong, Stray};
@@ -10,27 +8,27 @@ const CASES: [Case; 5] = [
     (
         "one after a C-element",
         &[0, 2, 1, 1, 2, 0, 2, 0, 1, 0],
-        Refused(File(Overlong(9))),
+        Err(File(Overlong(9))),
     ),
     (
         "six after a C-element",
         &[0, 2, 1, 1, 2, 0, 2, 0, 1, 255, 0, 0, 0, 0, 0],
-        Refused(File(Overlong(9))),
+        Err(File(Overlong(9))),
     ),
     (
         "a mask that no map announced",
         &[0, 1, 1, 1, 1, 1, 1, 0, 1, 1, 1],
-        Refused(File(Overlong(10))),
+        Err(File(Overlong(10))),
     ),
     (
         "one after a mask",
         &[0, 2, 1, 1, 2, 2, 2, 0, 1, 0, 0],
-        Refused(File(Overlong(10))),
+        Err(File(Overlong(10))),
     ),
     (
         "a second fault of one",
         &[2, 2, 1, 1, 2, 0, 2, 0, 1, 1, 1, 0, 1, 0],
-        Refused(File(Overlong(12))),
+        Err(File(Overlong(12))),
     ),
 ];
 
@@ -41,14 +39,14 @@ fn left_over(rt: HostRuntime) -> Result<(), Fail> {
 
 #[test]
 fn a_long_tail(rt: HostRuntime) -> Result<(), Fail> {
-    let mut file = Draft::new();
-    file.put(&[0, 2, 1, 1, 2, 0, 2, 0, 1]);
-    file.put(&[0; 70000]);
-    assert_eq!(rt; file.bytes().len(), 70009);
-    try_one(&rt, file.bytes(), Refused(File(Overlong(9))))
+    let mut file = Vec::new(rt.alloc());
+    file.extend_from_slice(&[0, 2, 1, 1, 2, 0, 2, 0, 1])?;
+    file.resize(70009, 0)?;
+    assert_eq!(rt; file.len(), 70009);
+    try_one(&rt, &file, Err(File(Overlong(9))))
 }
 
 #[test]
 fn noise(rt: HostRuntime) -> Result<(), Fail> {
-    try_one(&rt, &[255; 8192], Refused(File(Stray(0))))
+    try_one(&rt, &[255; 8192], Err(File(Stray(0))))
 }

@@ -37,8 +37,8 @@ fn list(heap: Global, job: &Job) -> Result<String, AllocError>
 {
     let faults = job.faults();
     let mut text = counts(heap, job.circuit().netlist(), faults.count)?;
-    for n in 0..faults.count {
-        add_line(heap, &mut text, n, faults.fault[n as usize])?;
+    for (n, fault) in (0..faults.count).zip(&faults.fault) {
+        add_line(heap, &mut text, n, *fault)?;
     }
     Ok(text)
 }

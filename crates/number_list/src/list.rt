@@ -3,7 +3,7 @@ ghost use Rattle.std.specs.Prelude.{◌≡◌, ℕ, false};
 ghost use Rattle.rising.specs.Rows.{listed};
 ghost use Rattle.rising.proofs.Rising.{listed_low};
 
-use crate::numbers::{Numbers, Rule};
+use crate::numbers::Numbers;
 use fault_set::set::FaultSet;
 
 /// A fault set kept as an ordered list.
@@ -42,12 +42,12 @@ impl FaultSet for NumberList {
     }
 
     fn add(&mut self, n: u8) -> bool {
-        self.numbers = self.numbers.merged(&Numbers::only(n), Rule::Either);
+        self.numbers = self.numbers.merged(&Numbers::only(n), |a, b| a | b);
         n < 192
     }
 
     fn remove(&mut self, n: u8) -> bool {
-        self.numbers = self.numbers.merged(&Numbers::only(n), Rule::Less);
+        self.numbers = self.numbers.merged(&Numbers::only(n), |a, b| a & !b);
         n < 192
     }
 
@@ -56,15 +56,15 @@ impl FaultSet for NumberList {
     }
 
     fn unite(&mut self, other: &NumberList) {
-        self.numbers = self.numbers.merged(&other.numbers, Rule::Either);
+        self.numbers = self.numbers.merged(&other.numbers, |a, b| a | b);
     }
 
     fn keep_common(&mut self, other: &NumberList) {
-        self.numbers = self.numbers.merged(&other.numbers, Rule::Common);
+        self.numbers = self.numbers.merged(&other.numbers, |a, b| a & b);
     }
 
     fn take_away(&mut self, other: &NumberList) {
-        self.numbers = self.numbers.merged(&other.numbers, Rule::Less);
+        self.numbers = self.numbers.merged(&other.numbers, |a, b| a & !b);
     }
 
     fn same(&self, other: &NumberList) -> bool {

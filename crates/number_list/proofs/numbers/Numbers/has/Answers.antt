@@ -1,6 +1,8 @@
-use Rattle.std.proofs.Common.{sym}
-use Rattle.rising.proofs.Rising.{listed_low}
+use Rattle.std.proofs.Common.{◌≡◌, ℕ, List, ◌∙◌, sym, ap, length, arith}
+use Rattle.rising.proofs.Held.{has, held_has}
 use Rattle.number_list.proofs.numbers.Numbers.has.Goals as goal
 
-pub returns-then-n-gt191 : goal.returns-then-n-gt191
-returns-then-n-gt191 c = sym (listed_low c.args.self.now.at c.args.self.now.len c.args.n c.if-n-gt191.true)
+pub returns : goal.returns
+returns c =
+    let long : length c.args.self.now.at ≡ 192 = omega arith in
+    c.contains.ensures.value ∙ ap (λ (xs : List ℕ). has xs c.args.n) c.held.ensures ∙ sym (held_has c.args.self.now.at c.args.self.now.len long c.args.n)

@@ -23,6 +23,7 @@ impl NumberList {
     }
 
     /// The set that the first len places of a row stand for, whatever stands in it.
+    // Kept, rule of the project: a plain row and its count, as another hand may have left them.
     pub fn from_numbers(at: [u8; 192], len: u8) -> NumberList
         ensures { (k : ℕ) → listed result.numbers.at result.numbers.len k ≡ listed at len k }
     {

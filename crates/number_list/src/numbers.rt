@@ -1,5 +1,5 @@
 // Numbers in rising order, in a row of 192 places.
-ghost use Rattle.std.specs.Prelude.{◌≡◌, ℕ, ◌+◌, ◌<◌, ◌≤◌, true, false, ◌&&◌, Decides, ◌==◌, nat_lt, slice_set, List, [], ◌++◌, take, All, Contains, MatchOption};
+ghost use Rattle.std.specs.Prelude.{◌≡◌, ℕ, ◌+◌, ◌<◌, ◌≤◌, min, true, false, ◌&&◌, Decides, ◌==◌, nat_lt, slice_set, List, [], ◌++◌, take, All, Contains, MatchOption};
 ghost use Rattle.fault_set.specs.Members.{tally};
 ghost use Rattle.rising.specs.Rows.{held, listed};
 ghost use Rattle.number_list.specs.Rules.{Keeps};
@@ -42,12 +42,18 @@ impl Numbers {
         }
     }
 
-    /// The numbers: the first low part of the row, as far as it rises.
+    /// The places of the row that are said to be in use.
+    fn used(&self) -> &[u8]
+        ensures { result.now ≡ take (min self.now.len 192) self.now.at }
+    {
+        &self.at[..usize::from(self.len.min(192))]
+    }
+
+    /// The numbers: what is used before the first number above 191, as far as it rises.
     fn held(&self) -> &[u8]
         ensures { result.now ≡ held self.now.at self.now.len }
     {
-        let used = &self.at[..usize::from(self.len.min(192))];
-        let low = used.split(|n| *n > 191).next().unwrap_or(&[]);
+        let low = self.used().split(|n| !is_number(*n)).next().unwrap_or(&[]);
         low.chunk_by(|a, b| a < b).next().unwrap_or(&[])
     }
 
@@ -62,6 +68,7 @@ impl Numbers {
     }
 
     /// Whether n is among the numbers.
+    #[tactic(auto, using(rising::proofs::Held::held_has))]
     pub fn has(&self, n: u8) -> bool
         ensures { result ≡ listed self.now.at self.now.len n }
     {
@@ -69,15 +76,21 @@ impl Numbers {
     }
 
     /// The smallest number at or above n, and 192 if there is none.
+    // Kept, rule of the project: 192 for none is part of the definition of a fault set.
     pub fn next_after(&self, n: u8) -> u8
         ensures bound { result ≤ 192 }
         ensures least { (k : ℕ) → n ≤ k → k < result → listed self.now.at self.now.len k ≡ false }
         ensures found { result < 192 → (n ≤ result) × (listed self.now.at self.now.len result ≡ true) }
     {
-        self.held().iter().find(|m| **m >= n).copied().unwrap_or(192)
+        self.held()
+            .iter()
+            .find(|m| **m >= n)
+            .copied()
+            .unwrap_or(192)
     }
 
     /// How many numbers there are.
+    #[tactic(auto, using(rising::proofs::Held::length_held, rising::proofs::Rising::reach_tally))]
     pub fn count(&self) -> u8
         ensures { result ≡ tally (listed self.now.at self.now.len) 192 }
     {
@@ -111,6 +124,13 @@ impl Numbers {
         }
         out
     }
+}
+
+// Whether a set can have n.
+fn is_number(n: u8) -> bool
+    ensures { result ≡ nat_lt n 192 }
+{
+    n <= 191
 }
 
 // The lower of the first numbers of two lists.

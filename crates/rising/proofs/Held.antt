@@ -1,8 +1,8 @@
 -- The numbers that a row holds, as a list.
-use Rattle.std.proofs.Common.{◌≡◌, ℕ, zero, suc, ◌+◌, ◌-◌, ◌<◌, ◌≤◌, min, Bool, true, false, ◌||◌, eqb, ltb, List, [], ◌∷◌, ◌++◌, length, get_or, take, Option, None, Some, sym, refl, ap, ◌∙◌, ap₂, subst, ⊎_elim, arith}
+use Rattle.std.proofs.Common.{◌≡◌, ℕ, zero, suc, ◌+◌, ◌-◌, ◌<◌, ◌≤◌, min, Bool, true, false, not, ◌||◌, eqb, ltb, List, [], ◌∷◌, ◌++◌, length, get_or, take, Option, None, Some, sym, refl, ap, ◌∙◌, ap₂, subst, ⊎_elim, arith}
 use Rattle.std.proofs.Math.Bool.{or-false}
 use Rattle.std.proofs.Math.Seq.{take-suc}
-use Rattle.std.proofs.lemmas.Bool.{cases_order, cases_lt, cases_eq, eq-eqb, ne_eqb, lt-ltb, le-ltb, ltb-true, ltb-false, and_from, and_left, and_right, or_from, or_left, or_right, both_ways}
+use Rattle.std.proofs.lemmas.Bool.{cases_order, cases_lt, cases_eq, eq-eqb, ne_eqb, lt-ltb, le-ltb, ltb-true, ltb-false, and_from, and_left, and_right, or_from, or_left, or_right, both_ways, not-true, not-false}
 use Rattle.std.proofs.lemmas.List.{append-nil, nil_from_length, length-append, length-take-le, get_or-take, get_or_append_left, take_at, take-take, take-append-le}
 use Rattle.std.proofs.lemmas.List.Elements.{All-from_get_or}
 use Rattle.std.proofs.lemmas.List.Folds.{list_any-append, list_any_at, list_any_none}
@@ -168,7 +168,7 @@ same_held a la b lb ea eb same =
 
 -- what stands before the first number above 191
 abbrev pub LowFront : List ℕ → List ℕ → Type 0
-LowFront used low = (rest : List ℕ) × (used ≡ low ++ rest) × IsFirstMatchOrLen (λ n. ltb 191 n) used (length low)
+LowFront used low = (rest : List ℕ) × (used ≡ low ++ rest) × IsFirstMatchOrLen (λ n. not (ltb n 192)) used (length low)
 
 -- what rises from the start on
 abbrev pub RisingFront : List ℕ → List ℕ → Type 0
@@ -190,7 +190,7 @@ module _ (at : List ℕ) (n : ℕ) (inside : n ≤ length at) (low xs : List ℕ
   low_below : (i : ℕ) → i < length low → get_or at i 0 < 192
   low_below i h =
       let z = lengths in
-      let a = ltb-false 191 (get_or (take n at) i 0) (l.2.0 i 0 (omega arith) h) in
+      let a = ltb-true (get_or (take n at) i 0) 192 (not-false _ (l.2.0 i 0 (omega arith) h)) in
       let b : get_or (take n at) i 0 ≡ get_or at i 0 = get_or-take n at i 0 (omega arith) in
       omega arith
 
@@ -236,7 +236,7 @@ module _ (at : List ℕ) (n : ℕ) (inside : n ≤ length at) (low xs : List ℕ
       (or_from (eqb (length xs) 0) _ (ne_eqb (length xs) 0 (λ e. omega arith)) (le-ltb (get_or at (length xs - 1) 0) (get_or at (length xs) 0) (omega arith))))
       (λ (s : length low ≤ length xs).
       let e : length low ≡ length xs = omega arith in
-      let a = ltb-true 191 (get_or (take n at) (length low) 0) (l.2.1 (omega arith) 0) in
+      let a = ltb-false (get_or (take n at) (length low) 0) 192 (not-true _ (l.2.1 (omega arith) 0)) in
       let b : get_or (take n at) (length low) 0 ≡ get_or at (length low) 0 = get_or-take n at (length low) 0 (omega arith) in
       let c : get_or at (length low) 0 ≡ get_or at (length xs) 0 = ap (λ (i : ℕ). get_or at i 0) e in
       and_left (ltb (get_or at (length xs) 0) 192) _ (le-ltb (get_or at (length xs) 0) 192 (omega arith)))
@@ -259,11 +259,11 @@ split_rest_of false used low rest h = (h.0 ∷ rest, h.1)
 
 -- the first part of a `split` at the numbers above 191
 pub low_split : {F : Type 0} (g : Mut F (Bor ℕ × Unit {0}) Bool) (s t : Split ℕ F) (r : Option (Bor (List ℕ))) (d : Bor (List ℕ)) → split_done s ≡ false →
-    ComputesKey g (λ n. ltb 191 n) (split_callee s) → split_steps g s r t → LowFront (split_rest s) (unwrap_or r d).now
+    ComputesKey g (λ n. not (ltb n 192)) (split_callee s) → split_steps g s r t → LowFront (split_rest s) (unwrap_or r d).now
 low_split g s t None d new test h = absurd (both_ways _ new h.0)
 low_split g s t (Some x) d new test h =
     let rest = split_rest_of (split_done t) (split_rest s) x.now (split_rest t) h.1 in
-    (rest.0, rest.1, ((h.2 (λ n. ltb 191 n) test).1.0, (h.2 (λ n. ltb 191 n) test).1.1))
+    (rest.0, rest.1, ((h.2 (λ n. not (ltb n 192)) test).1.0, (h.2 (λ n. not (ltb n 192)) test).1.1))
 
 -- the first part of a `chunk_by` where each number is below the next
 pub rising_chunk : {F : Type 0} (g : Mut F (Bor ℕ × (Bor ℕ × Unit {0})) Bool) (s t : ChunkBy ℕ F) (r : Option (Bor (List ℕ))) (d : Bor (List ℕ)) → d.now ≡ [] →

@@ -1,5 +1,5 @@
 -- A walk along two lists of rising numbers at once that keeps some of them in a row.
-use Rattle.std.proofs.Common.{◌≡◌, ℕ, zero, suc, ◌+◌, ◌-◌, ◌<◌, ◌≤◌, min, Bool, true, false, cond, ◌&&◌, ◌||◌, eqb, ltb, ◌⊎◌, List, [], ◌∷◌, ◌++◌, length, get_or, set, take, drop, Option, None, Some, sym, refl, ap, ◌∙◌, ap₂, subst, inl, inr, ⊎_elim, arith, length-set, get_or-set_other, get_or-set_same}
+use Rattle.std.proofs.Common.{◌≡◌, ℕ, zero, suc, ◌+◌, ◌-◌, ◌<◌, ◌≤◌, min, Bool, true, false, cond, ◌&&◌, ◌||◌, eqb, ltb, ◌⊎◌, List, [], ◌∷◌, ◌++◌, length, get_or, set, take, drop, Option, None, Some, sym, refl, ap, ◌∙◌, ap₂, subst, ⊎_elim, arith, length-set, get_or-set_other, get_or-set_same}
 use Rattle.std.proofs.Math.Bool.{or-false}
 use Rattle.std.proofs.lemmas.Bool.{cases_lt, cases_eq, cases_Bool, lt-ltb, eq-eqb, ne_eqb, and_from, and_left, or_from, or_left, or_right, cond-true, cond-false}
 use Rattle.std.proofs.lemmas.List.Elements.{All-nil, All-cons, Contains-append_cases}
@@ -10,7 +10,7 @@ use Rattle.std.specs.Option.{MatchOption, is_some, unwrap_or}
 use denote.Ref.{Bor}
 use Rattle.rising.specs.Rows.{follows, reach, among, listed, held}
 use Rattle.rising.proofs.Rising.{Rising, reach_is, not_among, among_more}
-use Rattle.rising.proofs.Held.{has, has_at, has_below, has_head, Ranked, ranked_tail, ranked_head, held_ranked, held_has}
+use Rattle.rising.proofs.Held.{has, has_below, Ranked, ranked_tail, ranked_head, held_ranked, held_has}
 
 -- ---- what has been kept
 
@@ -144,20 +144,20 @@ step f [] v n a h low = record {
 step f (x ∷ xs) v n a h low =
     let least : n ≤ x = low 0 0 (omega arith) in
     record {
-  here = ⊎_elim
-      (λ (e : x ≡ n). a.is n h ∙ or_left (eqb x n) (has xs n) (eq-eqb x n e) ∙ sym (begins_head x xs n e))
-      (λ (ne : x ≡ n → ⊥). a.is n h ∙ has_below (x ∷ xs) n (all_from n (omega arith)) ∙ sym (begins_other x xs n ne))
-      (cases_eq x n);
-  gap = λ k p q. a.is k p ∙ has_below (x ∷ xs) k (all_from k (omega arith));
-  rest = ⊎_elim
-      (λ (e : x ≡ n). rw (begins_head x xs n e) (record {
-        ranked = ranked_tail x xs a.ranked;
-        above = λ i l. let z = ranked_head x xs a.ranked i l in omega arith;
-        is = λ k p. a.is k (omega arith) ∙ ap (λ (b : Bool). b || has xs k) (ne_eqb x k (λ q. omega arith));
-      }))
-      (λ (ne : x ≡ n → ⊥). rw (begins_other x xs n ne) (record { ranked = a.ranked; above = λ i l. let z = all_from n (omega arith) i l in omega arith; is = λ k p. a.is k (omega arith) }))
-      (cases_eq x n);
-}
+      here = ⊎_elim
+          (λ (e : x ≡ n). a.is n h ∙ or_left (eqb x n) (has xs n) (eq-eqb x n e) ∙ sym (begins_head x xs n e))
+          (λ (ne : x ≡ n → ⊥). a.is n h ∙ has_below (x ∷ xs) n (all_from n (omega arith)) ∙ sym (begins_other x xs n ne))
+          (cases_eq x n);
+      gap = λ k p q. a.is k p ∙ has_below (x ∷ xs) k (all_from k (omega arith));
+      rest = ⊎_elim
+          (λ (e : x ≡ n). rw (begins_head x xs n e) (record {
+            ranked = ranked_tail x xs a.ranked;
+            above = λ i l. let z = ranked_head x xs a.ranked i l in omega arith;
+            is = λ k p. a.is k (omega arith) ∙ ap (λ (b : Bool). b || has xs k) (ne_eqb x k (λ q. omega arith));
+          }))
+          (λ (ne : x ≡ n → ⊥). rw (begins_other x xs n ne) (record { ranked = a.ranked; above = λ i l. let z = all_from n (omega arith) i l in omega arith; is = λ k p. a.is k (omega arith) }))
+          (cases_eq x n);
+    }
   where
     all_from : (k : ℕ) → k < x → (i : ℕ) → i < length (x ∷ xs) → k < get_or (x ∷ xs) i 0
     all_from k l zero p = l
@@ -256,13 +256,13 @@ lowest_both (x ∷ xs) (y ∷ ys) n a b e = (
 abbrev pub Stripped : List ℕ → ℕ → Option (Bor (List ℕ)) → Type 0
 Stripped xs n r = MatchOption r (begins xs n ≡ false) (λ x. (begins xs n ≡ true) × (x.now ≡ drop 1 xs) × (length x.now + 1 ≡ length xs))
 
-pub stripped_begins : (xs : List ℕ) (n : ℕ) (r : Option (Bor (List ℕ))) → Stripped xs n r → is_some r ≡ begins xs n
-stripped_begins xs n None s = sym s
-stripped_begins xs n (Some x) s = sym s.0
+pub stripped_begins : (xs : List ℕ) (n : ℕ) (r : Option (Bor (List ℕ))) (b : Bool) → b ≡ is_some r → Stripped xs n r → b ≡ begins xs n
+stripped_begins xs n None b e s = e ∙ sym s
+stripped_begins xs n (Some x) b e s = e ∙ sym s.0
 
-pub stripped_after : (xs : Bor (List ℕ)) (n : ℕ) (r : Option (Bor (List ℕ))) → Stripped xs.now n r → (unwrap_or r xs).now ≡ after xs.now n
-stripped_after xs n None s = sym (cond-false (begins xs.now n) (drop 1 xs.now) xs.now s)
-stripped_after xs n (Some x) s = s.1 ∙ sym (cond-true (begins xs.now n) (drop 1 xs.now) xs.now s.0)
+pub stripped_after : (xs : Bor (List ℕ)) (n : ℕ) (r : Option (Bor (List ℕ))) (rest : Bor (List ℕ)) → rest ≡ unwrap_or r xs → Stripped xs.now n r → rest.now ≡ after xs.now n
+stripped_after xs n None rest e s = ap (λ (y : Bor (List ℕ)). y.now) e ∙ sym (cond-false (begins xs.now n) (drop 1 xs.now) xs.now s)
+stripped_after xs n (Some x) rest e s = ap (λ (y : Bor (List ℕ)). y.now) e ∙ s.1 ∙ sym (cond-true (begins xs.now n) (drop 1 xs.now) xs.now s.0)
 
 -- ---- how much is left
 

@@ -1,5 +1,5 @@
-use Rattle.std.proofs.Common.{◌≡◌, ℕ, List, Bor, length, ap, ◌∙◌, inl, inr, arith}
-use Rattle.rising.proofs.Merge.{merging_none, merging_more, merging_room, merging_less, merging_all, stripped_begins, stripped_after}
+use Rattle.std.proofs.Common.{◌≡◌, length, inl, inr, arith}
+use Rattle.rising.proofs.Merge.{merging_none, merging_more, merging_room, merging_all, stripped_begins, stripped_after}
 use Rattle.number_list.proofs.numbers.Numbers.merged.Goals as goal
 use Rattle.number_list.proofs.numbers.Numbers.merged.Goals.{then-keep, else-keep}
 
@@ -18,13 +18,16 @@ loop-n-preserved g c =
     let n = c.in-Some.n in
     let ours = c.strip_prefix-our_rest.ensures.cases in
     let theirs = c.strip_prefix-their_rest.ensures.cases in
-    let a = c.is_some.ensures ∙ stripped_begins c.loop-n.ours.now n c.strip_prefix-our_rest.result ours in
-    let b = c.is_some-in-Some.ensures ∙ stripped_begins c.loop-n.theirs.now n c.strip_prefix-their_rest.result theirs in
-    rw
-    (ap (λ (r : Bor (List ℕ)). r.now) c.unwrap_or-ours.ensures ∙ stripped_after c.loop-n.ours n c.strip_prefix-our_rest.result ours,
-      ap (λ (r : Bor (List ℕ)). r.now) c.unwrap_or-theirs.ensures ∙ stripped_after c.loop-n.theirs n c.strip_prefix-their_rest.result theirs)
+    rw (
+      stripped_after c.loop-n.ours n c.strip_prefix-our_rest.result c.unwrap_or-ours.result c.unwrap_or-ours.ensures ours,
+      stripped_after c.loop-n.theirs n c.strip_prefix-their_rest.result c.unwrap_or-theirs.result c.unwrap_or-theirs.ensures theirs,
+    )
     (merging_more _ _ _ c.loop-n.ours.now c.loop-n.theirs.now c.loop-n.out.at c.loop-n.out.len n c.keep.result _ _ c.loop-n.invariant c.in-Some.ensures
-    (rw (a, b) at c.keep.ensures)
+    (rw (
+      stripped_begins c.loop-n.ours.now n c.strip_prefix-our_rest.result c.is_some.result c.is_some.ensures ours,
+      stripped_begins c.loop-n.theirs.now n c.strip_prefix-their_rest.result c.is_some-in-Some.result c.is_some-in-Some.ensures theirs,
+    )
+    at c.keep.ensures)
     (elim c.if-keep.branch [ then-keep w ↦ inl (w.if-keep.true, cc, cc) | else-keep w ↦ inr (w.if-keep.false, cc, cc) ]))
 
 pub returns : goal.returns

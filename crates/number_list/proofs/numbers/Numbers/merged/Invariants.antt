@@ -1,4 +1,4 @@
-use Rattle.std.proofs.Common.{◌+◌, length, ◌≡◌}
+use Rattle.std.proofs.Common.{◌+◌, length}
 use Rattle.rising.proofs.Merge.{Merging}
 use Rattle.rising.specs.Rows.{listed}
 use Rattle.number_list.proofs.numbers.Numbers.merged.Given as goal

@@ -8,8 +8,7 @@ pub returns : goal.returns
 returns c =
     let a : length c.args.self.now.at ≡ 192 = omega arith in
     let b : length c.args.other.now.at ≡ 192 = omega arith in
-    let same = slice_eq-Decides Decides-eqb c.held.result.now c.held-2.result.now c.eq.result c.eq.ensures in
-    (
+    let same = slice_eq-Decides Decides-eqb c.held.result.now c.held-2.result.now c.eq.result c.eq.ensures in (
       λ t k. held_has c.args.self.now.at c.args.self.now.len a k
           ∙ ap (λ (xs : List ℕ). has xs k) (sym c.held.ensures ∙ same.0 t ∙ c.held-2.ensures)
           ∙ sym (held_has c.args.other.now.at c.args.other.now.len b k),

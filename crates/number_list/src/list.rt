@@ -3,7 +3,7 @@ ghost use Rattle.std.specs.Prelude.{◌≡◌, ℕ, false};
 ghost use Rattle.rising.specs.Rows.{listed};
 ghost use Rattle.rising.proofs.Rising.{listed_low};
 
-use crate::numbers::Numbers;
+use crate::numbers::{Numbers, is_number};
 use fault_set::set::FaultSet;
 
 /// A fault set kept as an ordered list.
@@ -44,12 +44,12 @@ impl FaultSet for NumberList {
 
     fn add(&mut self, n: u8) -> bool {
         self.numbers = self.numbers.merged(&Numbers::only(n), |a, b| a | b);
-        n < 192
+        is_number(n)
     }
 
     fn remove(&mut self, n: u8) -> bool {
         self.numbers = self.numbers.merged(&Numbers::only(n), |a, b| a & !b);
-        n < 192
+        is_number(n)
     }
 
     fn has(&self, n: u8) -> bool {

@@ -126,8 +126,8 @@ impl Numbers {
     }
 }
 
-// Whether a set can have n.
-fn is_number(n: u8) -> bool
+/// Whether a set can have n.
+pub fn is_number(n: u8) -> bool
     ensures { result ≡ nat_lt n 192 }
 {
     n <= 191

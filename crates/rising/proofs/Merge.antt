@@ -1,7 +1,7 @@
 -- A walk along two lists of rising numbers at once that keeps some of them in a row.
 use Rattle.std.proofs.Common.{◌≡◌, ℕ, zero, suc, ◌+◌, ◌-◌, ◌<◌, ◌≤◌, min, Bool, true, false, cond, ◌&&◌, ◌||◌, eqb, ltb, ◌⊎◌, List, [], ◌∷◌, ◌++◌, length, get_or, set, take, drop, Option, None, Some, sym, refl, ap, ◌∙◌, ap₂, subst, ⊎_elim, arith, length-set, get_or-set_other, get_or-set_same}
 use Rattle.std.proofs.Math.Bool.{or-false}
-use Rattle.std.proofs.lemmas.Bool.{cases_lt, cases_eq, cases_Bool, lt-ltb, eq-eqb, ne_eqb, and_from, and_left, or_from, or_left, or_right, cond-true, cond-false}
+use Rattle.std.proofs.lemmas.Bool.{cases_lt, cases_eq, lt-ltb, eq-eqb, ne_eqb, and_from, and_left, or_from, or_left, or_right, cond-true, cond-false}
 use Rattle.std.proofs.lemmas.List.Elements.{All-nil, All-cons, Contains-append_cases}
 use Rattle.std.specs.Bool.{MatchBool}
 use Rattle.std.specs.Cmp.Lexicographic.{pointwise}
@@ -263,33 +263,6 @@ stripped_begins xs n (Some x) b e s = e ∙ sym s.0
 pub stripped_after : (xs : Bor (List ℕ)) (n : ℕ) (r : Option (Bor (List ℕ))) (rest : Bor (List ℕ)) → rest ≡ unwrap_or r xs → Stripped xs.now n r → rest.now ≡ after xs.now n
 stripped_after xs n None rest e s = ap (λ (y : Bor (List ℕ)). y.now) e ∙ sym (cond-false (begins xs.now n) (drop 1 xs.now) xs.now s)
 stripped_after xs n (Some x) rest e s = ap (λ (y : Bor (List ℕ)). y.now) e ∙ s.1 ∙ sym (cond-true (begins xs.now n) (drop 1 xs.now) xs.now s.0)
-
--- ---- how much is left
-
-after_le : (xs : List ℕ) (n : ℕ) → length (after xs n) ≤ length xs
-after_le [] n = omega arith
-after_le (x ∷ xs) n =
-    ⊎_elim
-    (λ (e : begins (x ∷ xs) n ≡ true). rw e (omega arith))
-    (λ (e : begins (x ∷ xs) n ≡ false). rw e (omega arith))
-    (cases_Bool (begins (x ∷ xs) n))
-
-after_less : (xs : List ℕ) (n : ℕ) → Contains (take 1 xs) n → length (after xs n) < length xs
-after_less [] n c = let z = c.1 in absurd (omega arith)
-after_less (x ∷ xs) n c =
-    let i = c.0 in
-    let l = c.1 in
-    let z : i ≡ 0 = omega arith in
-    rw (begins_head x xs n (subst (λ (i : ℕ). get_or (x ∷ []) i n ≡ n) z c.2)) (omega arith)
-
-pub merging_less : (xs ys : List ℕ) (n : ℕ) → Lowest xs ys n → length (after xs n) + length (after ys n) < length xs + length ys
-merging_less xs ys n l =
-    let a = after_le xs n in
-    let b = after_le ys n in
-    ⊎_elim
-    (λ c. let z = after_less xs n c in omega arith)
-    (λ c. let z = after_less ys n c in omega arith)
-    (Contains-append_cases (take 1 xs) (take 1 ys) n l.0)
 
 -- ---- the start
 

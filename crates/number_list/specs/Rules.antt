@@ -1,9 +1,6 @@
--- What each rule keeps: a number that the first set has (a) and the second has (b).
-use Rattle.std.specs.Prelude.{Bool, not, ◌&&◌, ◌||◌}
-use Rattle.number_list.specs.declared.numbers.Rule.{Rule}
-use Rattle.number_list.specs.declared.numbers.Rule.TheVariants.{Either, Common, Less}
+-- What a test of two answers keeps of two sets.
+use Rattle.std.specs.Prelude.{◌≡◌, ℕ, Bool, false, ◌||◌, MatchBool}
 
-abbrev pub keeps : Rule → Bool → Bool → Bool
-keeps Either a b = a || b
-keeps Common a b = a && b
-keeps Less a b = a && not b
+-- a number that either set has is in the third as the test says of the two answers, and no other number is
+abbrev pub Keeps : (Bool → Bool → Bool → Type 0) → (ℕ → Bool) → (ℕ → Bool) → (ℕ → Bool) → Type 0
+Keeps says a b c = (k : ℕ) → MatchBool (a k || b k) (says (a k) (b k) (c k)) (c k ≡ false)

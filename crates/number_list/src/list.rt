@@ -3,7 +3,7 @@ ghost use Rattle.std.specs.Prelude.{◌≡◌, ℕ, false};
 ghost use Rattle.rising.specs.Rows.{listed};
 ghost use Rattle.rising.proofs.Rising.{listed_low};
 
-use crate::numbers::{Numbers, Rule};
+use crate::numbers::{Numbers, is_number};
 use fault_set::set::FaultSet;
 
 /// A fault set kept as an ordered list.
@@ -23,6 +23,7 @@ impl NumberList {
     }
 
     /// The set that the first len places of a row stand for, whatever stands in it.
+    // Kept, rule of the project: a plain row and its count, as another hand may have left them.
     pub fn from_numbers(at: [u8; 192], len: u8) -> NumberList
         ensures { (k : ℕ) → listed result.numbers.at result.numbers.len k ≡ listed at len k }
     {
@@ -42,13 +43,13 @@ impl FaultSet for NumberList {
     }
 
     fn add(&mut self, n: u8) -> bool {
-        self.numbers = self.numbers.merged(&Numbers::only(n), Rule::Either);
-        n < 192
+        self.numbers = self.numbers.merged(&Numbers::only(n), |a, b| a | b);
+        is_number(n)
     }
 
     fn remove(&mut self, n: u8) -> bool {
-        self.numbers = self.numbers.merged(&Numbers::only(n), Rule::Less);
-        n < 192
+        self.numbers = self.numbers.merged(&Numbers::only(n), |a, b| a & !b);
+        is_number(n)
     }
 
     fn has(&self, n: u8) -> bool {
@@ -56,15 +57,15 @@ impl FaultSet for NumberList {
     }
 
     fn unite(&mut self, other: &NumberList) {
-        self.numbers = self.numbers.merged(&other.numbers, Rule::Either);
+        self.numbers = self.numbers.merged(&other.numbers, |a, b| a | b);
     }
 
     fn keep_common(&mut self, other: &NumberList) {
-        self.numbers = self.numbers.merged(&other.numbers, Rule::Common);
+        self.numbers = self.numbers.merged(&other.numbers, |a, b| a & b);
     }
 
     fn take_away(&mut self, other: &NumberList) {
-        self.numbers = self.numbers.merged(&other.numbers, Rule::Less);
+        self.numbers = self.numbers.merged(&other.numbers, |a, b| a & !b);
     }
 
     fn same(&self, other: &NumberList) -> bool {

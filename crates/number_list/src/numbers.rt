@@ -1,35 +1,12 @@
 // Numbers in rising order, in a row of 192 places.
-ghost use Rattle.std.specs.Prelude.{◌≡◌, ℕ, ◌+◌, ◌<◌, ◌≤◌, true, false, ◌&&◌, Decides, ◌==◌, nat_lt, slice_set};
+ghost use Rattle.std.specs.Prelude.{◌≡◌, ℕ, ◌+◌, ◌<◌, ◌≤◌, min, true, false, ◌&&◌, Decides, ◌==◌, nat_lt, slice_set, List, [], ◌++◌, take, All, Contains, MatchOption};
 ghost use Rattle.fault_set.specs.Members.{tally};
-ghost use Rattle.rising.specs.Rows.{listed, seen};
-ghost use Rattle.number_list.specs.Rules.{keeps};
-
-/// Which numbers of two sets to keep.
-#[derive(Clone, Copy)]
-pub enum Rule {
-    /// Those of either.
-    Either,
-    /// Those that both have.
-    Common,
-    /// Those of the first that the second lacks.
-    Less,
-}
-
-impl Rule {
-    /// Whether to keep a number that the first set has (a) and the second has (b).
-    fn keeps(self, a: bool, b: bool) -> bool
-        ensures { result ≡ keeps self a b }
-    {
-        match self {
-            Rule::Either => a | b,
-            Rule::Common => a & b,
-            Rule::Less => a & !b,
-        }
-    }
-}
+ghost use Rattle.rising.specs.Rows.{held, listed};
+ghost use Rattle.number_list.specs.Rules.{Keeps};
 
 /// The numbers of a row's longest beginning in which each is above the one before and none is above 191.
 /// What stands behind that beginning does not matter, nor a length above 192.
+// Kept, rule of the project: a plain row of fixed size with a count, of which its type promises nothing.
 #[derive(Clone, Copy)]
 pub struct Numbers {
     at: [u8; 192],
@@ -65,15 +42,19 @@ impl Numbers {
         }
     }
 
-    /// The number at place i if it is at most 191 and above the one before, and else 192.
-    fn number(&self, i: usize) -> u8
-        ensures { result ≡ seen self.now.at self.now.len i }
+    /// The places of the row that are said to be in use.
+    fn used(&self) -> &[u8]
+        ensures { result.now ≡ take (min self.now.len 192) self.now.at }
     {
-        if i < usize::from(self.len.min(192)) && (i == 0 || self.at[i - 1] < self.at[i]) {
-            self.at[i].min(192)
-        } else {
-            192
-        }
+        &self.at[..usize::from(self.len.min(192))]
+    }
+
+    /// The numbers: what is used before the first number above 191, as far as it rises.
+    fn held(&self) -> &[u8]
+        ensures { result.now ≡ held self.now.at self.now.len }
+    {
+        let low = self.used().split(|n| !is_number(*n)).next().unwrap_or(&[]);
+        low.chunk_by(|a, b| a < b).next().unwrap_or(&[])
     }
 
     /// Puts n behind the last number.
@@ -87,80 +68,78 @@ impl Numbers {
     }
 
     /// Whether n is among the numbers.
+    #[tactic(auto, using(rising::proofs::Held::held_has))]
     pub fn has(&self, n: u8) -> bool
         ensures { result ≡ listed self.now.at self.now.len n }
     {
-        if n > 191 {
-            return false;
-        }
-        self.next_after(n) == n
+        self.held().contains(&n)
     }
 
     /// The smallest number at or above n, and 192 if there is none.
+    // Kept, rule of the project: 192 for none is part of the definition of a fault set.
     pub fn next_after(&self, n: u8) -> u8
         ensures bound { result ≤ 192 }
         ensures least { (k : ℕ) → n ≤ k → k < result → listed self.now.at self.now.len k ≡ false }
         ensures found { result < 192 → (n ≤ result) × (listed self.now.at self.now.len result ≡ true) }
     {
-        // the walk finds 192 at its end, and stops there
-        let low = n.min(192);
-        let mut i = 0;
-        loop {
-            let x = self.number(i);
-            if x >= low {
-                return x;
-            }
-            i += 1;
-        }
+        self.held()
+            .iter()
+            .find(|m| **m >= n)
+            .copied()
+            .unwrap_or(192)
     }
 
     /// How many numbers there are.
+    #[tactic(auto, using(rising::proofs::Held::length_held, rising::proofs::Rising::reach_tally))]
     pub fn count(&self) -> u8
         ensures { result ≡ tally (listed self.now.at self.now.len) 192 }
     {
-        let mut i = 0;
-        while self.number(i) < 192 {
-            i += 1;
-        }
-        i as u8
+        self.held().len() as u8
     }
 
     /// Whether both have the same numbers.
     pub fn same(&self, other: &Numbers) -> bool
         ensures { Decides result ((k : ℕ) → listed self.now.at self.now.len k ≡ listed other.now.at other.now.len k) }
     {
-        let mut i = 0;
-        loop {
-            let x = self.number(i);
-            if x != other.number(i) {
-                return false;
-            }
-            if x > 191 {
-                return true;
-            }
-            i += 1;
-        }
+        self.held() == other.held()
     }
 
-    /// What the rule keeps of the two, by one walk along both.
-    pub fn merged(&self, other: &Numbers, rule: Rule) -> Numbers
-        ensures { (k : ℕ) → listed result.at result.len k ≡ keeps rule (listed self.now.at self.now.len k) (listed other.now.at other.now.len k) }
+    /// The numbers that `keep` says yes to, by one walk along both: it is asked of each number that either has,
+    /// whether the first has it and whether the second does.
+    pub fn merged<F: Fn(bool, bool) -> bool>(&self, other: &Numbers, keep: F) -> Numbers
+        requires { F.IsAlwaysCallable keep }
+        ensures { Keeps (F.post keep) (listed self.now.at self.now.len) (listed other.now.at other.now.len) (listed result.at result.len) }
     {
         let mut out = Numbers::none();
-        let mut i = 0;
-        let mut j = 0;
-        loop {
-            let x = self.number(i);
-            let y = other.number(j);
-            let n = x.min(y);
-            if n > 191 {
-                return out;
-            }
-            if rule.keeps(x == n, y == n) {
+        let mut ours = self.held();
+        let mut theirs = other.held();
+        while let Some(n) = lowest(ours, theirs) {
+            let our_rest = ours.strip_prefix(&[n]);
+            let their_rest = theirs.strip_prefix(&[n]);
+            if keep(our_rest.is_some(), their_rest.is_some()) {
                 out.push(n);
             }
-            i += usize::from(x == n);
-            j += usize::from(y == n);
+            ours = our_rest.unwrap_or(ours);
+            theirs = their_rest.unwrap_or(theirs);
         }
+        out
+    }
+}
+
+/// Whether a set can have n.
+pub fn is_number(n: u8) -> bool
+    ensures { result ≡ nat_lt n 192 }
+{
+    n <= 191
+}
+
+// The lower of the first numbers of two lists.
+fn lowest(a: &[u8], b: &[u8]) -> Option<u8>
+    ensures { MatchOption result ((a.now ≡ []) × (b.now ≡ [])) (λ n. Contains (take 1 a.now ++ take 1 b.now) n × All (λ x. n ≤ x) (take 1 a.now) × All (λ x. n ≤ x) (take 1 b.now)) }
+{
+    match (a, b) {
+        ([x, ..], [y, ..]) => Some((*x).min(*y)),
+        ([x, ..], []) | ([], [x, ..]) => Some(*x),
+        ([], []) => None,
     }
 }

@@ -1,4 +1,4 @@
 pub mod Tally
 pub mod Rising
-pub mod Walk
+pub mod Held
 pub mod Merge

@@ -1,25 +1,30 @@
--- A walk along two rows at once that keeps some of their numbers.
-use Rattle.std.proofs.Common.{◌≡◌, ℕ, zero, suc, ◌+◌, ◌-◌, ◌<◌, ◌≤◌, min, Bool, true, false, ◌&&◌, ◌||◌, eqb, ltb, ◌⊎◌, List, length, get_or, set, sym, refl, ap, ◌∙◌, ap₂, inl, inr, ⊎_elim, arith, length-set, get_or-set_other, get_or-set_same}
-use mir.Val.{bool_byte}
-use Rattle.std.proofs.lemmas.Bool.{cases_lt, cases_eq, lt-ltb, eq-eqb, ne_eqb, and_from, or_right}
-use Rattle.rising.specs.Rows.{follows, run, reach, among, listed, seen}
-use Rattle.rising.proofs.Tally.{or_no}
-use Rattle.rising.proofs.Rising.{Rising, rising_run, not_among, among_more, listed_low}
-use Rattle.rising.proofs.Walk.{Passed, passed_more, seen_at, seen_above, seen_gap, seen_only, reach_le}
+-- A walk along two lists of rising numbers at once that keeps some of them in a row.
+use Rattle.std.proofs.Common.{◌≡◌, ℕ, zero, suc, ◌+◌, ◌-◌, ◌<◌, ◌≤◌, min, Bool, true, false, cond, ◌&&◌, ◌||◌, eqb, ltb, ◌⊎◌, List, [], ◌∷◌, ◌++◌, length, get_or, set, take, drop, Option, None, Some, sym, refl, ap, ◌∙◌, ap₂, subst, ⊎_elim, arith, length-set, get_or-set_other, get_or-set_same}
+use Rattle.std.proofs.Math.Bool.{or-false}
+use Rattle.std.proofs.lemmas.Bool.{cases_lt, cases_eq, lt-ltb, eq-eqb, ne_eqb, and_from, and_left, or_from, or_left, or_right, cond-true, cond-false}
+use Rattle.std.proofs.lemmas.List.Elements.{All-nil, All-cons, Contains-append_cases}
+use Rattle.std.specs.Bool.{MatchBool}
+use Rattle.std.specs.Cmp.Lexicographic.{pointwise}
+use Rattle.std.specs.List.{All, Contains}
+use Rattle.std.specs.Option.{MatchOption, is_some, unwrap_or}
+use denote.Ref.{Bor}
+use Rattle.rising.specs.Rows.{follows, reach, among, listed, held}
+use Rattle.rising.proofs.Rising.{Rising, reach_is, not_among, among_more}
+use Rattle.rising.proofs.Held.{has, has_below, Ranked, ranked_tail, ranked_head, held_ranked, held_has}
 
 -- ---- what has been kept
 
--- the first o numbers of the row are those below v that pass f, in rising order
-pub record Kept (at : List ℕ) (o v : ℕ) (f : ℕ → Bool) : Type 0 where
+-- the first o numbers of the row rise and are below v, and each number below v is as wanted among them
+pub record Kept (at : List ℕ) (o v : ℕ) (wanted : ℕ → Bool → Type 0) : Type 0 where
   pub few : o ≤ v
   pub long : length at ≡ 192
   pub rising : Rising at o
   pub below : (p : ℕ) → p < o → get_or at p 0 < v
-  pub is : (k : ℕ) → k < v → among at o k ≡ f k
+  pub is : (k : ℕ) → k < v → wanted k (among at o k)
 
 -- none from v on was kept
-kept_above : (at : List ℕ) (o v : ℕ) (f : ℕ → Bool) → Kept at o v f → (k : ℕ) → v ≤ k → among at o k ≡ false
-kept_above at o v f c k h = not_among at o k (λ p t e. let z : get_or at p 0 < v = c.below p t in omega arith)
+kept_above : (at : List ℕ) (o v : ℕ) (wanted : ℕ → Bool → Type 0) → Kept at o v wanted → (k : ℕ) → v ≤ k → among at o k ≡ false
+kept_above at o v wanted c k h = not_among at o k (λ p t e. let z : get_or at p 0 < v = c.below p t in omega arith)
 
 among_set : (at : List ℕ) (i x n k : ℕ) → n ≤ i → among (set at i x) n k ≡ among at n k
 unfolding among
@@ -43,10 +48,14 @@ put_follows at o x h low up =
     or_right (eqb o 0) _ (lt-ltb (get_or (set at o x) (o - 1) 0) (get_or (set at o x) o 0) (omega arith)))
     (cases_eq o 0))
 
-module _ (at : List ℕ) (o v n : ℕ) (f : ℕ → Bool) (c : Kept at o v f) (h : v ≤ n) (gap : (k : ℕ) → v ≤ k → k < n → f k ≡ false) where
-  kept_put : o < 192 → n < 192 → f n ≡ true → Kept (set at o n) (o + 1) (n + 1) f
-  kept_put fit low hit =
-      let room : o < length at = let z = c.long in omega arith in
+-- the number put behind the first o is among the first o + 1
+put_among : (at : List ℕ) (o n k : ℕ) → o < length at → among (set at o n) (o + 1) k ≡ (among at o k || eqb n k)
+put_among at o n k room = among_more (set at o n) o k ∙ ap₂ (λ (a : Bool) (x : ℕ). a || eqb x k) (among_set at o n o k (omega arith)) (get_or-set_same at o n 0 room)
+
+module _ (at : List ℕ) (o v n : ℕ) (wanted : ℕ → Bool → Type 0) (c : Kept at o v wanted) (h : v ≤ n) (gap : (k : ℕ) → v ≤ k → k < n → wanted k false) where
+  kept_put : n < 192 → wanted n true → Kept (set at o n) (o + 1) (n + 1) wanted
+  kept_put low hit =
+      let room : o < length at = let y = c.few in let z = c.long in omega arith in
       let put : get_or (set at o n) o 0 ≡ n = get_or-set_same at o n 0 room in
       record {
         few = let z = c.few in omega arith;
@@ -63,19 +72,20 @@ module _ (at : List ℕ) (o v n : ℕ) (f : ℕ → Bool) (c : Kept at o v f) (h
             omega arith)
             (cases_eq p o);
         is = λ k q.
-            among_more (set at o n) o k ∙ ap₂ (λ (a : Bool) (x : ℕ). a || eqb x k) (among_set at o n o k (omega arith)) put
-            ∙ ⊎_elim
-            (λ (s : k < v). ap₂ ◌||◌ (c.is k s) (ne_eqb n k (λ e. omega arith)) ∙ or_no (f k))
+            let now = put_among at o n k room in
+            ⊎_elim
+            (λ (s : k < v).
+            subst (wanted k) (sym (now ∙ ap (λ (b : Bool). among at o k || b) (ne_eqb n k (λ e. omega arith)) ∙ or-false (among at o k))) (c.is k s))
             (λ (s : v ≤ k).
-            ap (λ (a : Bool). a || eqb n k) (kept_above at o v f c k s)
-            ∙ ⊎_elim
-            (λ (t : k ≡ n). eq-eqb n k (sym t) ∙ sym (ap f t ∙ hit))
-            (λ (t : k ≡ n → ⊥). ne_eqb n k (λ e. t (sym e)) ∙ sym (gap k s (omega arith)))
-            (cases_eq k n))
+            let new : among (set at o n) (o + 1) k ≡ eqb n k = now ∙ ap (λ (b : Bool). b || eqb n k) (kept_above at o v wanted c k s) in
+            ⊎_elim
+            (λ (t : n ≡ k). subst (wanted k) (sym (new ∙ eq-eqb n k t)) (subst (λ (x : ℕ). wanted x true) t hit))
+            (λ (t : n ≡ k → ⊥). subst (wanted k) (sym (new ∙ ne_eqb n k t)) (gap k s (omega arith)))
+            (cases_eq n k))
             (cases_lt k v);
       }
 
-  kept_pass : f n ≡ false → Kept at o (n + 1) f
+  kept_pass : wanted n false → Kept at o (n + 1) wanted
   kept_pass miss = record {
     few = let z = c.few in omega arith;
     long = c.long;
@@ -83,111 +93,194 @@ module _ (at : List ℕ) (o v n : ℕ) (f : ℕ → Bool) (c : Kept at o v f) (h
     below = λ p q. let z : get_or at p 0 < v = c.below p q in omega arith;
     is = λ k q. ⊎_elim
         (λ (s : k < v). c.is k s)
-        (λ (s : v ≤ k). kept_above at o v f c k s ∙ ⊎_elim (λ (t : k ≡ n). sym (ap f t ∙ miss)) (λ (t : k ≡ n → ⊥). sym (gap k s (omega arith))) (cases_eq k n))
+        (λ (s : v ≤ k).
+        subst (wanted k) (sym (kept_above at o v wanted c k s))
+        (⊎_elim (λ (t : n ≡ k). subst (λ (x : ℕ). wanted x false) t miss) (λ (t : n ≡ k → ⊥). gap k s (omega arith)) (cases_eq n k)))
         (cases_lt k v);
   }
 
-kept_all : (at : List ℕ) (o v : ℕ) (f : ℕ → Bool) → Kept at o v f → v ≤ 192 → ((k : ℕ) → v ≤ k → f k ≡ false) → (k : ℕ) → listed at o k ≡ f k
-kept_all at o v f c top gap k =
-    let z : min o 192 ≡ o = let y = c.few in omega arith in
-    let r : reach at o ≡ o = ap (run at) z ∙ rising_run at o c.rising in
-    ap (λ (m : ℕ). among at m k) r
-    ∙ ⊎_elim (λ (s : k < v). c.is k s) (λ (s : v ≤ k). kept_above at o v f c k s ∙ sym (gap k s)) (cases_lt k v)
+-- nothing more is wanted: the row is done
+kept_all : (at : List ℕ) (o v : ℕ) (wanted : ℕ → Bool → Type 0) → Kept at o v wanted → v ≤ 192 → ((k : ℕ) → v ≤ k → wanted k false) → (k : ℕ) → wanted k (listed at o k)
+kept_all at o v wanted c top gap k =
+    let few = c.few in
+    let r : reach at o ≡ o = reach_is at o o c.rising (omega arith) (λ h. absurd (omega arith)) in
+    subst (wanted k) (ap (λ (m : ℕ). among at m k) (sym r))
+    (⊎_elim (λ (s : k < v). c.is k s) (λ (s : v ≤ k). subst (wanted k) (sym (kept_above at o v wanted c k s)) (gap k s)) (cases_lt k v))
 
 -- ---- a step of one walk
 
--- the walk finds x, and moves on by d: past n if x is n, and else not at all
-module _ (at : List ℕ) (len i v n x d : ℕ) (w : Passed at len i v) (is : x ≡ seen at len i) (by : d ≡ bool_byte (eqb x n)) (h : v ≤ n) (l : n ≤ x) (low : n < 192) where
-  moves : ((x ≡ n) × (i + d ≡ i + 1)) ⊎ ((n < x) × (i + d ≡ i))
-  moves =
-      ⊎_elim
-      (λ (e : x ≡ n). let z = ap bool_byte (eq-eqb x n e) in inl (e, omega arith))
-      (λ (e : x ≡ n → ⊥). let z = ap bool_byte (ne_eqb x n e) in inr (omega arith, omega arith))
-      (cases_eq x n)
+-- what is left of the walk: the numbers from v on that pass f
+pub record Ahead (f : ℕ → Bool) (xs : List ℕ) (v : ℕ) : Type 0 where
+  pub ranked : Ranked xs
+  pub above : (i : ℕ) → i < length xs → v ≤ get_or xs i 0
+  pub is : (k : ℕ) → v ≤ k → f k ≡ has xs k
 
-  step_passed : Passed at len (i + d) (n + 1)
-  step_passed =
-      let past : Passed at len i (n + 1) = record { within = w.within; before = λ p q. let z = w.before p q in omega arith } in
-      ⊎_elim (λ y. let e = y.0 in rw y.1 (passed_more at len i (n + 1) past (omega arith) (omega arith))) (λ y. rw y.1 past) moves
+-- n stands first
+abbrev pub begins : List ℕ → ℕ → Bool
+begins xs n = pointwise eqb (take 1 xs) (n ∷ [])
 
-  step_seen : n + 1 ≤ seen at len (i + d)
-  step_seen =
-      ⊎_elim
-      (λ y.
-      let e = y.0 in
-      let m = y.1 in
-      let up : get_or at i 0 < seen at len (i + d) = seen_above at len (i + d) i step_passed.within (omega arith) in
-      let z : seen at len i ≡ get_or at i 0 = seen_at at len i w.within (omega arith) in
-      omega arith)
-      (λ y. let z : seen at len (i + d) ≡ seen at len i = ap (seen at len) y.1 in let e = y.0 in omega arith)
-      moves
+-- and what is left once it is taken
+abbrev pub after : List ℕ → ℕ → List ℕ
+after xs n = cond (begins xs n) (drop 1 xs) xs
 
-  step_only : listed at len n ≡ eqb x n
-  step_only = seen_only at len i v n w h (omega arith) low ∙ ap (λ (z : ℕ). eqb z n) (sym is)
+begins_head : (x : ℕ) (xs : List ℕ) (n : ℕ) → x ≡ n → begins (x ∷ xs) n ≡ true
+begins_head x xs n e = and_from (eqb x n) true (eq-eqb x n e) refl
+
+begins_other : (x : ℕ) (xs : List ℕ) (n : ℕ) → (x ≡ n → ⊥) → begins (x ∷ xs) n ≡ false
+begins_other x xs n ne = and_left (eqb x n) true (ne_eqb x n ne)
+
+-- a step that takes n, where no number left is below n
+record Step (f : ℕ → Bool) (xs : List ℕ) (v n : ℕ) : Type 0 where
+  here : f n ≡ begins xs n
+  gap : (k : ℕ) → v ≤ k → k < n → f k ≡ false
+  rest : Ahead f (after xs n) (n + 1)
+
+step : (f : ℕ → Bool) (xs : List ℕ) (v n : ℕ) → Ahead f xs v → v ≤ n → All (λ x. n ≤ x) (take 1 xs) → Step f xs v n
+step f [] v n a h low = record {
+  here = a.is n h;
+  gap = λ k p q. a.is k p;
+  rest = record { ranked = a.ranked; above = λ i l. absurd (omega arith); is = λ k p. a.is k (omega arith) };
+}
+step f (x ∷ xs) v n a h low =
+    let least : n ≤ x = low 0 0 (omega arith) in
+    record {
+      here = ⊎_elim
+          (λ (e : x ≡ n). a.is n h ∙ or_left (eqb x n) (has xs n) (eq-eqb x n e) ∙ sym (begins_head x xs n e))
+          (λ (ne : x ≡ n → ⊥). a.is n h ∙ has_below (x ∷ xs) n (all_from n (omega arith)) ∙ sym (begins_other x xs n ne))
+          (cases_eq x n);
+      gap = λ k p q. a.is k p ∙ has_below (x ∷ xs) k (all_from k (omega arith));
+      rest = ⊎_elim
+          (λ (e : x ≡ n). rw (begins_head x xs n e) (record {
+            ranked = ranked_tail x xs a.ranked;
+            above = λ i l. let z = ranked_head x xs a.ranked i l in omega arith;
+            is = λ k p. a.is k (omega arith) ∙ ap (λ (b : Bool). b || has xs k) (ne_eqb x k (λ q. omega arith));
+          }))
+          (λ (ne : x ≡ n → ⊥). rw (begins_other x xs n ne) (record { ranked = a.ranked; above = λ i l. let z = all_from n (omega arith) i l in omega arith; is = λ k p. a.is k (omega arith) }))
+          (cases_eq x n);
+    }
+  where
+    all_from : (k : ℕ) → k < x → (i : ℕ) → i < length (x ∷ xs) → k < get_or (x ∷ xs) i 0
+    all_from k l zero p = l
+    all_from k l (suc i) p = let z = ranked_head x xs a.ranked i (omega arith) in omega arith
 
 -- ---- the whole walk
 
+-- what is to become of k: where either set has it, what the test may say of the two, and else nothing
+abbrev pub Wanted : (Bool → Bool → Bool → Type 0) → (ℕ → Bool) → (ℕ → Bool) → ℕ → Bool → Type 0
+Wanted says f g k r = MatchBool (f k || g k) (says (f k) (g k) r) (r ≡ false)
+
 -- both walks, and what has been kept, stand at one number
-pub record Merging (keep : Bool → Bool → Bool) (a : List ℕ) (la : ℕ) (b : List ℕ) (lb i j : ℕ) (out : List ℕ) (o : ℕ) : Type 0 where
+pub record Merging (says : Bool → Bool → Bool → Type 0) (f g : ℕ → Bool) (xs ys : List ℕ) (out : List ℕ) (o : ℕ) : Type 0 where
   pub v : ℕ
   pub top : v ≤ 192
-  pub left : Passed a la i v
-  pub right : Passed b lb j v
-  pub left_next : v ≤ seen a la i
-  pub right_next : v ≤ seen b lb j
-  pub kept : Kept out o v (λ k. keep (listed a la k) (listed b lb k))
+  pub left : Ahead f xs v
+  pub right : Ahead g ys v
+  pub kept : Kept out o v (Wanted says f g)
+
+-- n is the lowest of the numbers that stand first
+abbrev pub Lowest : List ℕ → List ℕ → ℕ → Type 0
+Lowest xs ys n = Contains (take 1 xs ++ take 1 ys) n × All (λ x. n ≤ x) (take 1 xs) × All (λ x. n ≤ x) (take 1 ys)
+
+first_known : (f : ℕ → Bool) (xs : List ℕ) (v n : ℕ) → Ahead f xs v → Contains (take 1 xs) n → (begins xs n ≡ true) × (v ≤ n) × (n < 192)
+first_known f [] v n a c = let z = c.1 in absurd (omega arith)
+first_known f (x ∷ xs) v n a c =
+    let i = c.0 in
+    let l = c.1 in
+    let z : i ≡ 0 = omega arith in
+    let e : x ≡ n = subst (λ (i : ℕ). get_or (x ∷ []) i n ≡ n) z c.2 in
+    let m : v ≤ x = a.above 0 (omega arith) in
+    let b : x < 192 = a.ranked.low 0 (omega arith) in
+    (begins_head x xs n e, omega arith, omega arith)
+
+-- the lowest number stands first in either list
+lowest_known : (f g : ℕ → Bool) (xs ys : List ℕ) (v n : ℕ) → Ahead f xs v → Ahead g ys v → Lowest xs ys n → ((begins xs n || begins ys n) ≡ true) × (v ≤ n) × (n < 192)
+lowest_known f g xs ys v n a b l =
+    ⊎_elim
+    (λ c. let k = first_known f xs v n a c in (or_left (begins xs n) (begins ys n) k.0, k.1, k.2))
+    (λ c. let k = first_known g ys v n b c in (or_right (begins xs n) (begins ys n) k.0, k.1, k.2))
+    (Contains-append_cases (take 1 xs) (take 1 ys) n l.0)
+
+wanted_none : (says : Bool → Bool → Bool → Type 0) (f g : ℕ → Bool) (k : ℕ) → f k ≡ false → g k ≡ false → Wanted says f g k false
+wanted_none says f g k a b = subst (λ (t : Bool). MatchBool t (says (f k) (g k) false) (false ≡ false)) (sym (or_from (f k) (g k) a b)) refl
+
+wanted_here : (says : Bool → Bool → Bool → Type 0) (f g : ℕ → Bool) (k : ℕ) (a b r : Bool) → f k ≡ a → g k ≡ b → (a || b) ≡ true → says a b r → Wanted says f g k r
+wanted_here says f g k a b r ea eb hit s =
+    subst (λ (t : Bool). MatchBool t (says (f k) (g k) r) (r ≡ false)) (sym (ap₂ ◌||◌ ea eb ∙ hit)) (rw (ea, eb) s)
 
 -- n was put behind the first o numbers, or was not
 abbrev pub Pushed : Bool → ℕ → List ℕ → ℕ → List ℕ → ℕ → Type 0
 Pushed put n out o out' o' = ((put ≡ true) × (out' ≡ set out o n) × (o' ≡ o + 1)) ⊎ ((put ≡ false) × (out' ≡ out) × (o' ≡ o))
 
-module _ (keep : Bool → Bool → Bool) (a : List ℕ) (la : ℕ) (b : List ℕ) (lb : ℕ) where
-  -- a step as the code makes it: each value with what is known of it
-  pub merging_more : keep false false ≡ false → (i j : ℕ) (out : List ℕ) (o x y n di dj : ℕ) (put : Bool) (out' : List ℕ) (o' : ℕ) → Merging keep a la b lb i j out o →
-      x ≡ seen a la i → y ≡ seen b lb j → n ≡ min x y → n < 192 → put ≡ keep (eqb x n) (eqb y n) → di ≡ bool_byte (eqb x n) → dj ≡ bool_byte (eqb y n) →
-      Pushed put n out o out' o' → Merging keep a la b lb (i + di) (j + dj) out' o'
-  merging_more none i j out o x y n di dj put out' o' g ex ey en low says ei ej pushed =
-      let l = g.left_next in
-      let r = g.right_next in
-      let few = g.kept.few in
-      let from : g.v ≤ n = omega arith in
-      let gap : (k : ℕ) → g.v ≤ k → k < n → keep (listed a la k) (listed b lb k) ≡ false =
-      λ k p q. ap₂ keep (seen_gap a la i g.v g.left k p (omega arith)) (seen_gap b lb j g.v g.right k p (omega arith)) ∙ none in
-      let here : keep (listed a la n) (listed b lb n) ≡ put =
-      ap₂ keep (step_only a la i g.v n x di g.left ex ei from (omega arith) low) (step_only b lb j g.v n y dj g.right ey ej from (omega arith) low) ∙ sym says in
+module _ (says : Bool → Bool → Bool → Type 0) (f g : ℕ → Bool) where
+  pub merging_more : (xs ys : List ℕ) (out : List ℕ) (o n : ℕ) (put : Bool) (out' : List ℕ) (o' : ℕ) → Merging says f g xs ys out o → Lowest xs ys n →
+      says (begins xs n) (begins ys n) put → Pushed put n out o out' o' → Merging says f g (after xs n) (after ys n) out' o'
+  merging_more xs ys out o n put out' o' m l said pushed =
+      let known = lowest_known f g xs ys m.v n m.left m.right l in
+      let from : m.v ≤ n = known.1 in
+      let low : n < 192 = known.2 in
+      let a = step f xs m.v n m.left from l.1 in
+      let b = step g ys m.v n m.right from l.2 in
+      let gap = λ (k : ℕ) (p : m.v ≤ k) (q : k < n). wanted_none says f g k (a.gap k p q) (b.gap k p q) in
+      let here : Wanted says f g n put = wanted_here says f g n (begins xs n) (begins ys n) put a.here b.here known.0 said in
       record {
         v = n + 1;
         top = omega arith;
-        left = step_passed a la i g.v n x di g.left ex ei from (omega arith) low;
-        right = step_passed b lb j g.v n y dj g.right ey ej from (omega arith) low;
-        left_next = step_seen a la i g.v n x di g.left ex ei from (omega arith) low;
-        right_next = step_seen b lb j g.v n y dj g.right ey ej from (omega arith) low;
+        left = a.rest;
+        right = b.rest;
         kept = ⊎_elim
-            (λ p. rw (p.1, p.2) (kept_put out o g.v n _ g.kept from gap (omega arith) low (here ∙ p.0)))
-            (λ p. rw (p.1, p.2) (kept_pass out o g.v n _ g.kept from gap (here ∙ p.0)))
+            (λ p. rw (p.1, p.2) (kept_put out o m.v n (Wanted says f g) m.kept from gap low (subst (Wanted says f g n) p.0 here)))
+            (λ p. rw (p.1, p.2) (kept_pass out o m.v n (Wanted says f g) m.kept from gap (subst (Wanted says f g n) p.0 here)))
             pushed;
       }
 
-  -- one walk at least moves on
-  pub merging_less : (i j x y n di dj : ℕ) (out : List ℕ) (o : ℕ) → Merging keep a la b lb (i + di) (j + dj) out o → n ≡ min x y → di ≡ bool_byte (eqb x n) → dj ≡ bool_byte (eqb y n) →
-      384 - ((i + di) + (j + dj)) < 384 - (i + j)
-  merging_less i j x y n di dj out o g en ei ej =
-      let l = g.left.within in
-      let r = g.right.within in
-      let la = reach_le a la in
-      let lb = reach_le b lb in
-      ⊎_elim
-      (λ (e : x ≡ n). let z = ap bool_byte (eq-eqb x n e) in omega arith)
-      (λ (e : x ≡ n → ⊥). let z = ap bool_byte (eq-eqb y n (omega arith)) in omega arith)
-      (cases_eq x n)
+  -- no number is left
+  pub merging_all : (out : List ℕ) (o : ℕ) → Merging says f g [] [] out o → (k : ℕ) → Wanted says f g k (listed out o k)
+  merging_all out o m = kept_all out o m.v (Wanted says f g) m.kept m.top (λ k h. wanted_none says f g k (m.left.is k h) (m.right.is k h))
 
-  -- both at their ends
-  pub merging_all : keep false false ≡ false → (i j : ℕ) (out : List ℕ) (o x y n : ℕ) → Merging keep a la b lb i j out o →
-      x ≡ seen a la i → y ≡ seen b lb j → n ≡ min x y → 191 < n → (k : ℕ) → listed out o k ≡ keep (listed a la k) (listed b lb k)
-  merging_all none i j out o x y n g ex ey en high =
-      kept_all out o g.v (λ k. keep (listed a la k) (listed b lb k)) g.kept g.top
-      (λ k h. ap₂ keep (past a la i x k ex (omega arith) g.left h) (past b lb j y k ey (omega arith) g.right h) ∙ none)
-    where
-      past : (at : List ℕ) (len i x k : ℕ) → x ≡ seen at len i → 191 < x → Passed at len i g.v → g.v ≤ k → listed at len k ≡ false
-      past at len i x k e l w h =
-          ⊎_elim (λ (s : k < 192). seen_gap at len i g.v w k h (omega arith)) (λ (s : 192 ≤ k). listed_low at len k s) (cases_lt k 192)
+  -- the row has room for one more
+  pub merging_room : (xs ys : List ℕ) (out : List ℕ) (o n : ℕ) → Merging says f g xs ys out o → Lowest xs ys n → o < 192
+  merging_room xs ys out o n m l = let known = lowest_known f g xs ys m.v n m.left m.right l in let few = m.kept.few in omega arith
+
+-- ---- what the library's calls say
+
+pub lowest_both : (xs ys : List ℕ) (n : ℕ) → 1 ≤ length xs → 1 ≤ length ys → n ≡ min (get_or xs 0 0) (get_or ys 0 0) → Lowest xs ys n
+lowest_both [] ys n a b e = absurd (omega arith)
+lowest_both (x ∷ xs) [] n a b e = absurd (omega arith)
+lowest_both (x ∷ xs) (y ∷ ys) n a b e = (
+  ⊎_elim (λ (l : x < y). (0, omega arith, omega arith)) (λ (l : y ≤ x). (1, omega arith, omega arith)) (cases_lt x y),
+  All-cons (λ z. n ≤ z) x [] (omega arith) (All-nil (λ z. n ≤ z)),
+  All-cons (λ z. n ≤ z) y [] (omega arith) (All-nil (λ z. n ≤ z)),
+)
+
+-- n was stripped off the front, or did not stand there
+abbrev pub Stripped : List ℕ → ℕ → Option (Bor (List ℕ)) → Type 0
+Stripped xs n r = MatchOption r (begins xs n ≡ false) (λ x. (begins xs n ≡ true) × (x.now ≡ drop 1 xs) × (length x.now + 1 ≡ length xs))
+
+pub stripped_begins : (xs : List ℕ) (n : ℕ) (r : Option (Bor (List ℕ))) (b : Bool) → b ≡ is_some r → Stripped xs n r → b ≡ begins xs n
+stripped_begins xs n None b e s = e ∙ sym s
+stripped_begins xs n (Some x) b e s = e ∙ sym s.0
+
+pub stripped_after : (xs : Bor (List ℕ)) (n : ℕ) (r : Option (Bor (List ℕ))) (rest : Bor (List ℕ)) → rest ≡ unwrap_or r xs → Stripped xs.now n r → rest.now ≡ after xs.now n
+stripped_after xs n None rest e s = ap (λ (y : Bor (List ℕ)). y.now) e ∙ sym (cond-false (begins xs.now n) (drop 1 xs.now) xs.now s)
+stripped_after xs n (Some x) rest e s = ap (λ (y : Bor (List ℕ)). y.now) e ∙ s.1 ∙ sym (cond-true (begins xs.now n) (drop 1 xs.now) xs.now s.0)
+
+-- ---- the start
+
+ahead_held : (at : List ℕ) (len : ℕ) → length at ≡ 192 → Ahead (listed at len) (held at len) 0
+ahead_held at len long = record { ranked = held_ranked at len long; above = λ i l. omega arith; is = λ k p. held_has at len long k }
+
+pub merging_none : (says : Bool → Bool → Bool → Type 0) (a : List ℕ) (la : ℕ) (b : List ℕ) (lb : ℕ) (out : List ℕ) → length a ≡ 192 → length b ≡ 192 → length out ≡ 192 →
+    Merging says (listed a la) (listed b lb) (held a la) (held b lb) out 0
+merging_none says a la b lb out ea eb eo = record {
+  v = 0;
+  top = omega arith;
+  left = ahead_held a la ea;
+  right = ahead_held b lb eb;
+  kept = record {
+    few = omega arith;
+    long = eo;
+    rising = λ p h. absurd (omega arith);
+    below = λ p h. absurd (omega arith);
+    is = λ k h. absurd (omega arith);
+  };
+}

@@ -1,6 +1,6 @@
 -- The longest rising beginning of a row, and what stands in it.
 use Rattle.std.proofs.Common.{◌≡◌, ℕ, zero, suc, ◌+◌, ◌-◌, ◌<◌, ◌≤◌, min, true, false, ◌&&◌, ◌||◌, eqb, ltb, ◌⊎◌, List, get_or, sym, refl, ap, ◌∙◌, inl, inr, ⊎_elim, add-one, arith}
-use Rattle.std.proofs.lemmas.Bool.{cases_eq, cases_Bool, ltb-true, eqb-true, eq-eqb, ne_eqb, and_parts, and_cases, or_cases, or_from, or_left, or_right, cond-true, cond-false, both_ways}
+use Rattle.std.proofs.lemmas.Bool.{cases_lt, cases_eq, cases_Bool, ltb-true, eqb-true, eq-eqb, ne_eqb, and_parts, and_cases, or_cases, or_from, cond-true, cond-false, both_ways}
 use Rattle.std.proofs.lemmas.Bool.Decides.{nat_tests}
 use Rattle.fault_set.specs.Members.{tally}
 use Rattle.rising.specs.Rows.{follows, run, reach, among, listed}
@@ -53,12 +53,18 @@ run_ends at (suc n) h =
     ap (follows at) y.1 ∙ ⊎_elim (λ (q : run at n ≡ n). ap (follows at) q ∙ y.0 q) (λ (q : run at n ≡ n → ⊥). run_ends at n (omega arith)) (cases_eq (run at n) n))
     (run_cases at n)
 
--- what rises all along is a run
-pub rising_run : (at : List ℕ) (n : ℕ) → Rising at n → run at n ≡ n
-rising_run at zero h = run_none at
-rising_run at (suc n) h =
-    let e : run at n ≡ n = rising_run at n (λ p l. h p (omega arith)) in
-    ⊎_elim (λ y. y.2) (λ y. absurd (both_ways _ (y.0 e) (h n (omega arith)))) (run_cases at n)
+-- the run is as long as the numbers rise
+pub reach_is : (at : List ℕ) (len m : ℕ) → Rising at m → m ≤ min len 192 → (m < min len 192 → follows at m ≡ false) → reach at len ≡ m
+reach_is at len m rises h ends =
+    let top = run_le at (min len 192) in
+    ⊎_elim
+    (λ (s : reach at len < m). absurd (both_ways _ (run_ends at (min len 192) (omega arith)) (rises (reach at len) s)))
+    (λ (s : m ≤ reach at len).
+    ⊎_elim
+    (λ (t : m < reach at len). absurd (both_ways _ (ends (omega arith)) (run_rises at (min len 192) m t)))
+    (λ (t : reach at len ≤ m). omega arith)
+    (cases_lt m (reach at len)))
+    (cases_lt (reach at len) m)
 
 pub follows_low : (at : List ℕ) (p : ℕ) → follows at p ≡ true → get_or at p 0 < 192
 follows_low at p h = ltb-true _ _ (and_parts _ _ h).0
@@ -82,15 +88,6 @@ rising_up at n p (suc q) h l m =
     (cases_eq p q)
 
 -- ---- what stands among the first
-
-pub among_at : (at : List ℕ) (n p k : ℕ) → p < n → get_or at p 0 ≡ k → among at n k ≡ true
-unfolding among
-among_at at zero p k h e = absurd (omega arith)
-among_at at (suc n) p k h e =
-    ⊎_elim
-    (λ (q : p ≡ n). or_right (among at n k) (eqb (get_or at n 0) k) (eq-eqb _ _ (ap (λ (x : ℕ). get_or at x 0) (sym q) ∙ e)))
-    (λ (q : p ≡ n → ⊥). or_left (among at n k) (eqb (get_or at n 0) k) (among_at at n p k (omega arith) e))
-    (cases_eq p n)
 
 pub not_among : (at : List ℕ) (n k : ℕ) → ((p : ℕ) → p < n → get_or at p 0 ≡ k → ⊥) → among at n k ≡ false
 unfolding among

@@ -1,6 +1,6 @@
 -- Which set a row of numbers stands for, whatever stands in it: its longest beginning in which each number is above the one
 -- before and none is above 191.
-use Rattle.std.specs.Prelude.{ℕ, zero, suc, ◌-◌, min, Bool, false, cond, ◌&&◌, ◌||◌, List, ◌==◌, nat_lt, slice_index}
+use Rattle.std.specs.Prelude.{ℕ, zero, suc, ◌-◌, min, Bool, false, cond, ◌&&◌, ◌||◌, List, take, ◌==◌, nat_lt, slice_index}
 
 -- the number at place p is at most 191, and it is the first or above the one before
 abbrev pub follows : List ℕ → ℕ → Bool
@@ -24,6 +24,6 @@ among at (suc n) k = among at n k || slice_index at n == k
 abbrev pub listed : List ℕ → ℕ → ℕ → Bool
 listed at len k = among at (reach at len) k
 
--- what a walk that came to place i finds there: the number if it follows, and else 192
-abbrev pub seen : List ℕ → ℕ → ℕ → ℕ
-seen at len i = cond (nat_lt i (min len 192) && follows at i) (slice_index at i) 192
+-- the beginning itself
+abbrev pub held : List ℕ → ℕ → List ℕ
+held at len = take (reach at len) at

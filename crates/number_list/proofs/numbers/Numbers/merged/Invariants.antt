@@ -1,10 +1,10 @@
-use Rattle.std.proofs.Common.{◌+◌, ◌-◌}
+use Rattle.std.proofs.Common.{◌+◌, length}
 use Rattle.rising.proofs.Merge.{Merging}
-use Rattle.number_list.specs.Rules.{keeps}
+use Rattle.rising.specs.Rows.{listed}
 use Rattle.number_list.proofs.numbers.Numbers.merged.Given as goal
 
-abbrev pub invariant-loop-rule : goal.invariant-loop-rule
-invariant-loop-rule l = Merging (keeps l.rule) l.self.at l.self.len l.other.at l.other.len l.i l.j l.out.at l.out.len
+abbrev pub invariant-loop-n : goal.invariant-loop-n
+invariant-loop-n g l = Merging (goal.F-post g l.keep) (listed l.self.at l.self.len) (listed l.other.at l.other.len) l.ours l.theirs l.out.at l.out.len
 
-abbrev pub decreases-loop-rule : goal.decreases-loop-rule
-decreases-loop-rule l = 384 - (l.i + l.j)
+abbrev pub decreases-loop-n : goal.decreases-loop-n
+decreases-loop-n g l = length l.ours + length l.theirs

@@ -1,19 +1,16 @@
-use Rattle.std.proofs.Common.{sym, refl, ◌∙◌, arith}
-use Rattle.std.proofs.lemmas.Bool.{false≢true}
-use Rattle.rising.proofs.Walk.{agree_more, agree_all, agree_next}
+use Rattle.std.proofs.Common.{◌≡◌, ℕ, List, ◌∙◌, sym, ap, length, arith}
+use Rattle.std.proofs.lemmas.Bool.Decides.{Decides-eqb}
+use Rattle.std.proofs.lemmas.Slice.Eq.{slice_eq-Decides}
+use Rattle.rising.proofs.Held.{has, held_has, same_held}
 use Rattle.number_list.proofs.numbers.Numbers.same.Goals as goal
 
-pub returns-then-x-number : goal.returns-then-x-number
-returns-then-x-number c = (
-  λ t. absurd (false≢true t),
-  λ same. absurd (c.if-x-number.true (c.number-x.ensures ∙ agree_next _ _ _ _ _ c.loop-i.invariant same ∙ sym c.number.ensures)),
-)
-
-pub returns-then-x-gt191 : goal.returns-then-x-gt191
-returns-then-x-gt191 c = (
-  λ _. agree_all _ _ _ _ _ c.loop-i.invariant (sym c.number-x.ensures ∙ c.if-x-number.false ∙ c.number.ensures) (omega (arith, c.number-x.ensures)),
-  λ _. refl,
-)
-
-pub loop-i-preserved : goal.loop-i-preserved
-loop-i-preserved c = agree_more _ _ _ _ _ c.loop-i.invariant (sym c.number-x.ensures ∙ c.if-x-number.false ∙ c.number.ensures) (omega (arith, c.number-x.ensures))
+pub returns : goal.returns
+returns c =
+    let a : length c.args.self.now.at ≡ 192 = omega arith in
+    let b : length c.args.other.now.at ≡ 192 = omega arith in
+    let same = slice_eq-Decides Decides-eqb c.held.result.now c.held-2.result.now c.eq.result c.eq.ensures in (
+      λ t k. held_has c.args.self.now.at c.args.self.now.len a k
+          ∙ ap (λ (xs : List ℕ). has xs k) (sym c.held.ensures ∙ same.0 t ∙ c.held-2.ensures)
+          ∙ sym (held_has c.args.other.now.at c.args.other.now.len b k),
+      λ h. same.1 (c.held.ensures ∙ same_held c.args.self.now.at c.args.self.now.len c.args.other.now.at c.args.other.now.len a b h ∙ sym c.held-2.ensures),
+    )

@@ -1,7 +1,8 @@
 -- The numbers that three words hold, from the bits of each.
-use Rattle.std.proofs.Common.{◌≡◌, ℕ, zero, suc, ◌+◌, ◌*◌, ◌/◌, ◌%◌, ◌^◌, ◌<◌, ◌≤◌, Bool, true, false, cond, not, ◌&&◌, ◌||◌, eqb, List, [], ◌∷◌, length, get_or, set, sym, refl, ap, ◌∙◌, ap₂, ⊎_elim, mod-lt, mod-eq_of_lt, zero-add, arith, get_or-set_other, get_or-set_same, pow_pos}
+use Rattle.std.proofs.Common.{◌≡◌, ℕ, zero, suc, ◌+◌, ◌*◌, ◌/◌, ◌%◌, ◌^◌, ◌<◌, ◌≤◌, Bool, true, false, cond, not, ◌&&◌, ◌||◌, eqb, List, [], ◌∷◌, length, get_or, set, sum_by, sym, refl, ap, ◌∙◌, ap₂, ⊎_elim, mod-lt, mod-eq_of_lt, zero-add, arith, get_or-set_other, get_or-set_same, pow_pos}
 use lib.Bits.{bit_or}
 use lib.Count.{ones}
+use Rattle.std.proofs.lemmas.List.{ext_get_or}
 use Rattle.std.proofs.lemmas.Bool.{cases_lt, cases_eq, ne_eqb, lt-ltb, le-ltb}
 use Rattle.std.proofs.lemmas.Bool.Decides.{nat_tests}
 use Rattle.fault_set.specs.Members.{tally}
@@ -112,16 +113,12 @@ at_word ws i j p q =
     let b : (64 * i + j) % 64 ≡ j = omega arith in
     in_low ws (64 * i + j) (omega arith) ∙ ap₂ (λ (x y : ℕ). bit (get_or ws x 0) y) a b
 
--- equal words hold the same, and words that hold the same are equal
-pub same_held : (ws vs : List ℕ) → get_or ws 0 0 ≡ get_or vs 0 0 → get_or ws 1 0 ≡ get_or vs 1 0 → get_or ws 2 0 ≡ get_or vs 2 0 → (k : ℕ) → in_words ws k ≡ in_words vs k
-same_held ws vs p q r k =
-    by_bits ws k (in_words vs k)
-    (λ h. ap (λ (w : ℕ). bit w (k % 64)) (each_word (λ i. get_or ws i 0 ≡ get_or vs i 0) p q r (k / 64) (omega arith)) ∙ sym (in_low vs k h))
-    (λ h. in_high vs k h)
-
-pub same_word : (ws vs : List ℕ) (i : ℕ) → i < 3 → get_or ws i 0 < 2 ^ 64 → get_or vs i 0 < 2 ^ 64 → ((k : ℕ) → in_words ws k ≡ in_words vs k) → get_or ws i 0 ≡ get_or vs i 0
-same_word ws vs i h p q e =
-    bits_same 64 (get_or ws i 0) (get_or vs i 0) p q (λ j l. sym (at_word ws i j h l) ∙ e (64 * i + j) ∙ at_word vs i j h l)
+-- words that hold the same numbers are equal
+pub words_same : (ws vs : List ℕ) → length ws ≡ 3 → length vs ≡ 3 → ((i : ℕ) → i < 3 → get_or ws i 0 < 2 ^ 64) → ((i : ℕ) → i < 3 → get_or vs i 0 < 2 ^ 64) →
+    ((k : ℕ) → in_words ws k ≡ in_words vs k) → ws ≡ vs
+words_same ws vs p q w v e =
+    ext_get_or 0 ws vs (p ∙ sym q)
+    (λ i h. bits_same 64 (get_or ws i 0) (get_or vs i 0) (w i (omega arith)) (v i (omega arith)) (λ j l. sym (at_word ws i j (omega arith) l) ∙ e (64 * i + j) ∙ at_word vs i j (omega arith) l))
 
 -- no number is held from n to `from`, nor from there up to a place of its word
 pub none_held : (ws : List ℕ) (n from p : ℕ) → from < 192 → p ≤ 64 → ((k : ℕ) → n ≤ k → k < from → in_words ws k ≡ false) →
@@ -152,6 +149,9 @@ held_tally ws p q r =
     in_word : (i : ℕ) → i < 3 → get_or ws i 0 < 2 ^ 64 → ones (get_or ws i 0) ≡ tally (λ j. in_words ws (64 * i + j)) 64
     in_word i h l = ap ones (sym (mod-eq_of_lt l)) ∙ ones_tally 64 (get_or ws i 0) ∙ tally_same (bit (get_or ws i 0)) (λ j. in_words ws (64 * i + j)) 64 (λ j m. sym (at_word ws i j h m))
 
-pub few_ones : (ws : List ℕ) → get_or ws 0 0 < 2 ^ 64 → get_or ws 1 0 < 2 ^ 64 → get_or ws 2 0 < 2 ^ 64 →
-    ones (get_or ws 0 0) + ones (get_or ws 1 0) + ones (get_or ws 2 0) ≤ 192
-few_ones ws p q r = let e = held_tally ws p q r in let l = tally_le (in_words ws) 192 in omega arith
+pub sum_ones : (ws : List ℕ) → length ws ≡ 3 → sum_by ones ws ≡ ones (get_or ws 0 0) + ones (get_or ws 1 0) + ones (get_or ws 2 0)
+sum_ones [] h = absurd (omega arith)
+sum_ones (a ∷ []) h = absurd (omega arith)
+sum_ones (a ∷ b ∷ []) h = absurd (omega arith)
+sum_ones (a ∷ b ∷ c ∷ []) h = omega arith
+sum_ones (a ∷ b ∷ c ∷ d ∷ xs) h = absurd (omega arith)

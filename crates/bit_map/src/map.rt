@@ -14,20 +14,21 @@ pub struct BitMap {
 
 impl BitMap {
     /// The set with no member.
+    #[tactic(auto, using(crate::proofs::Digits::bit_none))]
     pub fn empty() -> BitMap
         ensures { (k : ℕ) → in_words result.words k ≡ false }
     {
-        BitMap {
-            words: words::none(),
-        }
+        BitMap { words: [0; 3] }
     }
 
-    // The set of n alone, and of no number above 191.
+    // The set of n alone, and with no member where n is above 191.
+    #[tactic(auto, using(crate::proofs::Digits::bit_none, crate::proofs::Digits::bit_mask))]
     fn only(n: u8) -> BitMap
         ensures { (k : ℕ) → in_words result.words k ≡ (k == n && nat_lt n 192) }
     {
+        let word = |i| if n / 64 == i { 1 << (n % 64) } else { 0 };
         BitMap {
-            words: words::only(n),
+            words: [word(0), word(1), word(2)],
         }
     }
 

@@ -3,22 +3,6 @@ ghost use Rattle.std.specs.Prelude.{◌≡◌, ℕ, ◌<◌, IfSome, ◌&&◌, f
 ghost use Rattle.fault_set.specs.Members.{tally};
 ghost use Rattle.bit_map.specs.Bits.{bit, in_words, IsLowest};
 
-// No number.
-pub(crate) fn none() -> [u64; 3]
-    ensures { (k : ℕ) → in_words result k ≡ false }
-{
-    [0; 3]
-}
-
-// The number n alone, and none above 191.
-#[tactic(auto, using(crate::proofs::Digits::bit_none, crate::proofs::Digits::bit_mask))]
-pub(crate) fn only(n: u8) -> [u64; 3]
-    ensures { (k : ℕ) → in_words result k ≡ (k == n && nat_lt n 192) }
-{
-    let word = |i| if n / 64 == i { 1 << (n % 64) } else { 0 };
-    [word(0), word(1), word(2)]
-}
-
 // Whether the bit of n is set.
 #[tactic(auto, using(crate::proofs::Digits::bit_read))]
 pub(crate) fn holds(words: &[u64; 3], n: u8) -> bool

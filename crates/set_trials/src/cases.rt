@@ -179,6 +179,7 @@ fn made<S: FaultSet>(set: &mut S, step: Step, other: &S) -> bool {
 }
 
 // The first of these rising numbers that is at or above n, and 192 if there is none.
+// Kept, rule of the project: 192 is what `next_after` answers where there is no member.
 fn first_from(members: &[u8], n: u8) -> u8 {
     members.iter().copied().find(|m| *m >= n).unwrap_or(192)
 }

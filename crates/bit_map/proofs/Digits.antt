@@ -1,6 +1,6 @@
 -- The bits of a word under the operations on it.
 use Rattle.std.proofs.Common.{◌≡◌, ℕ, zero, suc, ◌+◌, ◌-◌, ◌*◌, ◌/◌, ◌%◌, ◌^◌, ◌<◌, Bool, true, false, not, ◌&&◌, ◌||◌, eqb, sym, refl, ap, ◌∙◌, ap₂, mod-lt, pow-suc, arith, pow_pos}
-use lib.Bits.{bit_and, bit_or, and_shr, or_shr, and_mod, or_mod}
+use lib.Bits.{bit_and, bit_or, and_mask, and_shr, or_shr, and_mod, or_mod}
 use lib.Count.{ones, ones_cat}
 use Rattle.std.proofs.lemmas.Bool.{ne_eqb, eq-eqb}
 use Rattle.std.proofs.lemmas.Nat.{one_shl, shr-shr, mod-pow-add}
@@ -39,6 +39,11 @@ bit_of_and = bit_op bit_and ◌&&◌ and_shr and_mod refl refl refl refl
 pub bit_shr : (w k j : ℕ) → bit (w / 2 ^ k) j ≡ bit w (k + j)
 unfolding bit
 bit_shr w k j = ap (λ (x : ℕ). eqb (x % 2) 1) (shr-shr w k j)
+
+-- `(w >> j) & 1 == 1` reads bit j
+pub bit_read : (w j : ℕ) → eqb (bit_and (w / 2 ^ j) 1) 1 ≡ bit w j
+unfolding bit
+bit_read w j = ap (λ (x : ℕ). eqb x 1) (and_mask (w / 2 ^ j) 1)
 
 pub bit_low : (a : ℕ) → bit a 0 ≡ eqb (a % 2) 1
 unfolding bit

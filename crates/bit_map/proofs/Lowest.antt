@@ -59,9 +59,12 @@ none_from w from j e h = from_shifted w from j h ∙ ap (λ (x : ℕ). bit x (j 
 pub least_from : (w from j : ℕ) → from ≤ j → j < from + count_trailing_zeros 64 (w / 2 ^ from) → bit w j ≡ false
 least_from w from j h l = from_shifted w from j h ∙ trailing_least 64 (w / 2 ^ from) (j - from) (omega arith)
 
-pub found_from : (w from : ℕ) → w < 2 ^ 64 → (w / 2 ^ from ≡ 0 → ⊥) → bit w (from + count_trailing_zeros 64 (w / 2 ^ from)) ≡ true
-found_from w from h ne = sym (bit_shr w from (count_trailing_zeros 64 (w / 2 ^ from))) ∙ trailing_found 64 (w / 2 ^ from) (let z = shr_le w from in omega arith) ne
-
 -- a set bit lies within the word
-pub set_below : (w j : ℕ) → w < 2 ^ 64 → bit w j ≡ true → j < 64
+set_below : (w j : ℕ) → w < 2 ^ 64 → bit w j ≡ true → j < 64
 set_below w j h b = ⊎_elim (λ (q : j < 64). q) (λ (q : 64 ≤ j). absurd (both_ways (bit w j) (bit_past w 64 j h q) b)) (cases_lt j 64)
+
+pub found_from : (w from : ℕ) → w < 2 ^ 64 → (w / 2 ^ from ≡ 0 → ⊥) →
+    (from + count_trailing_zeros 64 (w / 2 ^ from) < 64) × (bit w (from + count_trailing_zeros 64 (w / 2 ^ from)) ≡ true)
+found_from w from h ne =
+    let found = sym (bit_shr w from (count_trailing_zeros 64 (w / 2 ^ from))) ∙ trailing_found 64 (w / 2 ^ from) (let z = shr_le w from in omega arith) ne in
+    (set_below w (from + count_trailing_zeros 64 (w / 2 ^ from)) h found, found)

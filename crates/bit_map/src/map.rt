@@ -1,5 +1,5 @@
 // The bit map as a fault set.
-ghost use Rattle.std.specs.Prelude.{◌≡◌, ℕ, false, nat_lt};
+ghost use Rattle.std.specs.Prelude.{◌≡◌, ℕ, false, ◌&&◌, ◌==◌, nat_lt};
 ghost use Rattle.bit_map.specs.Bits.{in_words};
 ghost use Rattle.std.proofs.Common.{rules};
 
@@ -14,11 +14,21 @@ pub struct BitMap {
 
 impl BitMap {
     /// The set with no member.
+    #[tactic(auto, using(crate::proofs::Digits::bit_none))]
     pub fn empty() -> BitMap
         ensures { (k : ℕ) → in_words result.words k ≡ false }
     {
+        BitMap { words: [0; 3] }
+    }
+
+    // The set of n alone, and with no member where n is above 191.
+    #[tactic(auto, using(crate::proofs::Digits::bit_none, crate::proofs::Digits::bit_mask))]
+    fn only(n: u8) -> BitMap
+        ensures { (k : ℕ) → in_words result.words k ≡ (k == n && nat_lt n 192) }
+    {
+        let word = |i| if n / 64 == i { 1 << (n % 64) } else { 0 };
         BitMap {
-            words: words::none(),
+            words: [word(0), word(1), word(2)],
         }
     }
 
@@ -40,47 +50,44 @@ impl FaultSet for BitMap {
     }
 
     fn add(&mut self, n: u8) -> bool {
-        let known = is_number(n);
-        if known {
-            words::insert(&mut self.words, n);
-        }
-        known
+        self.unite(&BitMap::only(n));
+        is_number(n)
     }
 
     fn remove(&mut self, n: u8) -> bool {
-        let known = is_number(n);
-        if known {
-            words::delete(&mut self.words, n);
-        }
-        known
+        self.take_away(&BitMap::only(n));
+        is_number(n)
     }
 
     fn has(&self, n: u8) -> bool {
         is_number(n) && words::holds(&self.words, n)
     }
 
+    #[tactic(auto, using(crate::proofs::Digits::bit_of_or))]
     fn unite(&mut self, other: &BitMap) {
-        self.words = words::either(self.words, other.words);
+        self.words = words::combine(self.words, other.words, |a, b| a | b);
     }
 
+    #[tactic(auto, using(crate::proofs::Digits::bit_of_and))]
     fn keep_common(&mut self, other: &BitMap) {
-        self.words = words::both(self.words, other.words);
+        self.words = words::combine(self.words, other.words, |a, b| a & b);
     }
 
+    #[tactic(auto, using(crate::proofs::Digits::bit_and_not))]
     fn take_away(&mut self, other: &BitMap) {
-        self.words = words::without(self.words, other.words);
+        self.words = words::combine(self.words, other.words, |a, b| a & !b);
     }
 
     fn same(&self, other: &BitMap) -> bool {
-        words::alike(self.words, other.words)
+        words::alike(&self.words, &other.words)
     }
 
     fn next_after(&self, n: u8) -> u8 {
-        words::lowest(&self.words, n)
+        words::lowest(&self.words, n).unwrap_or(192)
     }
 
     fn count(&self) -> u8 {
-        words::count(self.words)
+        words::count(&self.words)
     }
 }
 

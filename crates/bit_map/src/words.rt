@@ -1,111 +1,65 @@
 // Three words of 64 bits, and the numbers that they hold.
-ghost use Rattle.std.specs.Prelude.{◌≡◌, ℕ, ◌<◌, ◌≤◌, true, false, not, ◌&&◌, ◌||◌, Decides, ◌==◌};
+ghost use Rattle.std.specs.Prelude.{◌≡◌, ℕ, ◌<◌, IfSome, ◌&&◌, false, Decides, ◌==◌, nat_lt, slice_index};
 ghost use Rattle.fault_set.specs.Members.{tally};
-ghost use Rattle.bit_map.specs.Bits.{bit, in_words};
-
-// No number.
-pub(crate) fn none() -> [u64; 3]
-    ensures { (k : ℕ) → in_words result k ≡ false }
-{
-    [0; 3]
-}
-
-// Sets the bit of n.
-pub(crate) fn insert(words: &mut [u64; 3], n: u8)
-    requires { n < 192 }
-    ensures { (k : ℕ) → in_words words.new k ≡ (in_words words.old k || k == n) }
-{
-    words[(n / 64) as usize] |= 1 << (n % 64);
-}
-
-// Unsets the bit of n.
-pub(crate) fn delete(words: &mut [u64; 3], n: u8)
-    requires { n < 192 }
-    ensures { (k : ℕ) → in_words words.new k ≡ (in_words words.old k && not (k == n)) }
-{
-    words[(n / 64) as usize] &= !(1 << (n % 64));
-}
+ghost use Rattle.bit_map.specs.Bits.{bit, in_words, IsLowest};
 
 // Whether the bit of n is set.
+#[tactic(auto, using(crate::proofs::Digits::bit_read))]
 pub(crate) fn holds(words: &[u64; 3], n: u8) -> bool
     requires { n < 192 }
     ensures { result ≡ in_words words.now n }
 {
-    (words[(n / 64) as usize] >> (n % 64)) & 1 == 1
+    (words[usize::from(n / 64)] >> (n % 64)) & 1 == 1
 }
 
-// What either holds.
-pub(crate) fn either(left: [u64; 3], right: [u64; 3]) -> [u64; 3]
-    ensures { (k : ℕ) → in_words result k ≡ (in_words left k || in_words right k) }
+// What a rule makes of the two words at each place.
+pub(crate) fn combine<F: Fn(u64, u64) -> u64>(left: [u64; 3], right: [u64; 3], rule: F) -> [u64; 3]
+    requires { F.IsAlwaysCallable rule }
+    ensures { (i : ℕ) → i < 3 → F.post rule (slice_index left i) (slice_index right i) (slice_index result i) }
 {
     let [a, b, c] = left;
     let [x, y, z] = right;
-    [a | x, b | y, c | z]
-}
-
-// What both hold.
-pub(crate) fn both(left: [u64; 3], right: [u64; 3]) -> [u64; 3]
-    ensures { (k : ℕ) → in_words result k ≡ (in_words left k && in_words right k) }
-{
-    let [a, b, c] = left;
-    let [x, y, z] = right;
-    [a & x, b & y, c & z]
-}
-
-// What the left holds and the right does not.
-pub(crate) fn without(left: [u64; 3], right: [u64; 3]) -> [u64; 3]
-    ensures { (k : ℕ) → in_words result k ≡ (in_words left k && not (in_words right k)) }
-{
-    let [a, b, c] = left;
-    let [x, y, z] = right;
-    [a & !x, b & !y, c & !z]
+    [rule(a, x), rule(b, y), rule(c, z)]
 }
 
 // Whether both hold the same.
-pub(crate) fn alike(left: [u64; 3], right: [u64; 3]) -> bool
-    ensures { Decides result ((k : ℕ) → in_words left k ≡ in_words right k) }
+pub(crate) fn alike(left: &[u64; 3], right: &[u64; 3]) -> bool
+    ensures { Decides result ((k : ℕ) → in_words left.now k ≡ in_words right.now k) }
 {
-    let [a, b, c] = left;
-    let [x, y, z] = right;
-    (a == x) & (b == y) & (c == z)
+    left == right
 }
 
-// The lowest number held at or above n, and 192 if there is none.
-pub(crate) fn lowest(words: &[u64; 3], n: u8) -> u8
-    ensures bound { result ≤ 192 }
-    ensures least { (k : ℕ) → n ≤ k → k < result → in_words words.now k ≡ false }
-    ensures found { result < 192 → (n ≤ result) × (in_words words.now result ≡ true) }
+// The lowest number held at or above n.
+pub(crate) fn lowest(words: &[u64; 3], n: u8) -> Option<u8>
+    ensures low { IfSome result (λ m. m < 192) }
+    ensures value { IsLowest (in_words words.now) n result }
 {
-    let mut from = n;
-    while from < 192 {
-        let place = lowest_bit(words[(from / 64) as usize], from % 64);
-        if place < 64 {
-            return from / 64 * 64 + place;
+    for (i, word) in words.iter().enumerate() {
+        let base = i as u8 * 64;
+        if let Some(place) = lowest_bit(*word, n.saturating_sub(base)) {
+            return Some(base + place);
         }
-        from = (from / 64 + 1) * 64;
     }
-    192
+    None
 }
 
-// The lowest set bit of a word at or above a place, and 64 if there is none.
-fn lowest_bit(word: u64, from: u8) -> u8
-    requires { from < 64 }
-    ensures bound { (from ≤ result) × (result ≤ 64) }
-    ensures least { (j : ℕ) → from ≤ j → j < result → bit word j ≡ false }
-    ensures found { result < 64 → bit word result ≡ true }
+// The lowest set bit of a word at or above a place.
+#[tactic(auto, using(crate::proofs::Lowest::none_from, crate::proofs::Lowest::least_from, crate::proofs::Lowest::found_from))]
+fn lowest_bit(word: u64, from: u8) -> Option<u8>
+    ensures low { IfSome result (λ j. j < 64) }
+    ensures value { IsLowest (bit word) from result }
 {
-    let rest = word >> from;
+    let rest = word.checked_shr(u32::from(from))?;
     if rest == 0 {
-        64
+        None
     } else {
-        from + rest.trailing_zeros() as u8
+        Some(from + rest.trailing_zeros() as u8)
     }
 }
 
 // How many numbers are held.
-pub(crate) fn count(words: [u64; 3]) -> u8
-    ensures { result ≡ tally (in_words words) 192 }
+pub(crate) fn count(words: &[u64; 3]) -> u8
+    ensures { result ≡ tally (in_words words.now) 192 }
 {
-    let [a, b, c] = words;
-    (a.count_ones() + b.count_ones() + c.count_ones()) as u8
+    words.iter().map(|word| word.count_ones()).sum::<u32>() as u8
 }

@@ -41,6 +41,7 @@ pub trait FaultSet: Copy {
     fn same(&self, other: &Self) -> bool
         ensures { Decides result ((k : ℕ) → member self.now k ≡ member other.now k) };
 
+    // Kept, rule of the project: that 192 stands for "none" is the product's own definition of this call.
     /// The smallest member at or above n, and 192 if there is none.
     fn next_after(&self, n: u8) -> u8
         ensures bound { result ≤ 192 }

@@ -1,7 +1,7 @@
 // One table of cases, tried on each kind through one function.
 use bit_map::map::BitMap;
 use fault_set::set::FaultSet;
-use fault_set::walk::count_by_walk;
+use fault_set::walk::{count_by_walk, members_of};
 use number_list::list::NumberList;
 use std::process::Abort;
 
@@ -179,13 +179,9 @@ fn made<S: FaultSet>(set: &mut S, step: Step, other: &S) -> bool {
 }
 
 // The first of these rising numbers that is at or above n, and 192 if there is none.
+// Kept, rule of the project: 192 is what `next_after` answers where there is no member.
 fn first_from(members: &[u8], n: u8) -> u8 {
-    for m in members {
-        if *m >= n {
-            return *m;
-        }
-    }
-    192
+    members.iter().copied().find(|m| *m >= n).unwrap_or(192)
 }
 
 /// Asks a set everything, and holds the answers against its rising members. A failure tells the kind and the name.
@@ -202,6 +198,10 @@ pub(crate) fn check_members<S: FaultSet>(
     }
     assert_eq!(rt; usize::from(set.count()), members.len(), "{kind}: {name}");
     assert_eq!(rt; count_by_walk(set), set.count(), "{kind}: {name}");
+    assert!(rt;
+        members_of(set).eq(members.iter().copied()),
+        "{kind}: {name}"
+    );
 }
 
 // One case, with the second set asked again after it.
@@ -218,10 +218,7 @@ fn try_case<S: FaultSet>(rt: &impl Abort, kind: &str, empty: S, case: &Case) {
 
 // All cases, for one kind.
 fn trial<S: FaultSet>(rt: &impl Abort, kind: &str, empty: S) {
-    for case in &ALONE {
-        try_case(rt, kind, empty, case);
-    }
-    for case in &TOGETHER {
+    for case in ALONE.iter().chain(&TOGETHER) {
         try_case(rt, kind, empty, case);
     }
 }

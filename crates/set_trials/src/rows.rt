@@ -37,33 +37,30 @@ const ROWS: [Row; 11] = [
     ),
 ];
 
-// The list of a row.
-fn listed(row: &Row) -> NumberList {
-    let (_, [a, b, c, d], len, _) = *row;
+// The list of a row with these first places and this length.
+fn listed(first: &[u8; 4], len: u8) -> NumberList {
     let mut at = [9; 192];
-    at[0] = a;
-    at[1] = b;
-    at[2] = c;
-    at[3] = d;
+    at[..4].copy_from_slice(first);
     NumberList::from_numbers(at, len)
 }
 
 #[test]
 fn lists_in_disorder(rt: HostRuntime) {
-    for row in &ROWS {
-        check_members(&rt, "number list", row.0, &listed(row), row.3);
+    for (name, first, len, members) in &ROWS {
+        check_members(&rt, "number list", name, &listed(first, *len), members);
     }
 }
 
 #[test]
 fn lists_in_disorder_together(rt: HostRuntime) {
-    for row in &ROWS {
-        let mut set = listed(row);
-        let mut kept = set;
+    for (name, first, len, members) in &ROWS {
+        let list = listed(first, *len);
+        let mut set = list;
         set.unite(&NumberList::empty());
-        check_members(&rt, "number list", row.0, &set, row.3);
-        kept.keep_common(&listed(row));
-        assert!(rt; kept.same(&set), "number list: {}", row.0);
+        check_members(&rt, "number list", name, &set, members);
+        let mut kept = list;
+        kept.keep_common(&list);
+        assert!(rt; kept.same(&set), "number list: {name}");
     }
 }
 

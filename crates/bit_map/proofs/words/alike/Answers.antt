@@ -1,14 +1,15 @@
-use Rattle.std.proofs.Common.{arith}
-use Rattle.std.proofs.lemmas.Bool.{and_parts, and_from, eqb-true, eq-eqb}
-use Rattle.bit_map.proofs.Rows.{same_held, same_word}
+use Rattle.std.proofs.Common.{ℕ, ◌<◌, ◌^◌, List, get_or, ap, arith}
+use Rattle.std.proofs.lemmas.Bool.Decides.{Decides-eqb}
+use Rattle.std.proofs.lemmas.Slice.Eq.{slice_eq-Decides}
+use Rattle.bit_map.specs.Bits.{in_words}
+use Rattle.bit_map.proofs.Rows.{each_word, words_same}
 use Rattle.bit_map.proofs.words.alike.Goals as goal
 
 pub returns : goal.returns
 returns c =
-    let ws = c.args.left in
-    let vs = c.args.right in (
-      λ t. let h = and_parts _ _ t in let l = and_parts _ _ h.0 in same_held ws vs (eqb-true _ _ l.0) (eqb-true _ _ l.1) (eqb-true _ _ h.1),
-      λ e. and_from _ _
-          (and_from _ _ (eq-eqb _ _ (same_word ws vs 0 (omega arith) (omega arith) (omega arith) e)) (eq-eqb _ _ (same_word ws vs 1 (omega arith) (omega arith) (omega arith) e)))
-          (eq-eqb _ _ (same_word ws vs 2 (omega arith) (omega arith) (omega arith) e)),
-    )
+    let ws = c.args.left.now in
+    let vs = c.args.right.now in
+    let equal = slice_eq-Decides Decides-eqb ws vs c.eq.result c.eq.ensures in
+    let w = each_word (λ (i : ℕ). get_or ws i 0 < 2 ^ 64) (omega arith) (omega arith) (omega arith) in
+    let v = each_word (λ (i : ℕ). get_or vs i 0 < 2 ^ 64) (omega arith) (omega arith) (omega arith) in
+    (λ t k. ap (λ (xs : List ℕ). in_words xs k) (equal.0 t), λ e. equal.1 (words_same ws vs (omega arith) (omega arith) w v e))

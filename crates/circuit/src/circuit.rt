@@ -1,14 +1,14 @@
 // The circuit, whose invariant says that it is lawful.
 ghost use Rattle.std.specs.Prelude.{◌≡◌, ℕ, ◌+◌, ◌-◌, ◌^◌, ◌<◌, ◌≤◌, false, Some, None, MatchResult, bit_and, slice_index, slice_index_or};
 ghost use Rattle.ternary.specs.Logics.{three_valued};
-ghost use Rattle.circuit.specs.Chips.{value_at, driven_in};
-ghost use Rattle.circuit.specs.Netlists.{gate_at, pin_at, least_pins, products, used_at, inverted_at, driven_by, trimmed, buffer, restless, Lawful};
+ghost use Rattle.circuit.specs.Chips.{value_at, pin_sees, driven_in};
+ghost use Rattle.circuit.specs.Netlists.{gate_at, pin_at, least_pins, products, used_at, inverted_at, pins_of, driven_by, trimmed, buffer, restless, Lawful};
 
-use crate::chip::drives_in;
+use crate::chip::seen_at;
 use crate::drive::drives;
 use crate::gate::{Function, Gate, Sum};
 use crate::netlist::Netlist;
-use crate::site::Fault;
+use crate::site::{Fault, Site};
 use ternary::Value;
 
 /// A netlist whose counts are in range, whose pins name lines and whose masks stay within their pins, with rising gate lines as outputs and a start at rest.
@@ -67,13 +67,40 @@ impl Circuit {
         }
     }
 
+    // What the pins of gate k see.
+    fn pins_seen(&self, fault: Option<Fault>, lines: &[Value; 48], k: u8) -> [Value; 8]
+        requires { k < self.now.netlist.gates }
+        ensures { (j : ℕ) → j < (gate_at self.now.netlist.gate k).pins → value_at result j ≡ pin_sees three_valued self.now.netlist fault (value_at lines.now) k j }
+    {
+        let netlist = &self.netlist;
+        let gate = &netlist.gate[k as usize];
+        let line = netlist.inputs + k;
+        let mut pins = [Value::Zero; 8];
+        for j in 0..gate.pins {
+            let read = lines[gate.pin[j as usize] as usize];
+            pins[j as usize] = seen_at(fault, Site::Pin { line, pin: j }, read);
+        }
+        pins
+    }
+
+    // The value of gate k's function when its own line has `own`.
+    fn drives_beside(&self, fault: Option<Fault>, lines: &[Value; 48], own: Value, k: u8) -> Value
+        requires { k < self.now.netlist.gates }
+        ensures { result ≡ driven_in three_valued self.now.netlist fault (value_at lines.now) own k }
+    {
+        let gate = &self.netlist.gate[k as usize];
+        let pins = self.pins_seen(fault, lines, k);
+        drives(&gate.function, &pins[..gate.pins as usize], &own)
+    }
+
     /// The value of gate k's function in the chip with this fault, or with none, when the lines have these values.
     /// Public only for the layers above, which go through the gates of a circuit.
     pub fn drives(&self, fault: Option<Fault>, lines: &[Value; 48], k: u8) -> Value
         requires { k < self.now.netlist.gates }
         ensures { result ≡ driven_in three_valued self.now.netlist fault (value_at lines.now) (value_at lines.now (self.now.netlist.inputs + k)) k }
     {
-        drives_in(&self.netlist, fault, lines, k)
+        let own = lines[(self.netlist.inputs + k) as usize];
+        self.drives_beside(fault, lines, own, k)
     }
 
     /// How many inputs it has.
@@ -98,6 +125,17 @@ impl Circuit {
     }
 }
 
+// What the pins of a gate see at the start.
+fn pins_at_start(gate: &Gate, start: &[bool; 48]) -> [bool; 8]
+    ensures { (j : ℕ) → j < 8 → slice_index_or result j false ≡ pins_of gate.now start.now j }
+{
+    let mut pins = [false; 8];
+    for (j, line) in gate.pin.iter().enumerate() {
+        pins[j] = start.get(*line as usize).copied().unwrap_or(false);
+    }
+    pins
+}
+
 // The lowest line that is not at rest at the start.
 fn first_restless(netlist: &Netlist) -> Option<u8>
     requires { Lawful netlist.now }
@@ -106,7 +144,9 @@ fn first_restless(netlist: &Netlist) -> Option<u8>
     for k in 0..netlist.gates {
         let line = netlist.inputs + k;
         let value = netlist.start[line as usize];
-        if drives(&netlist.gate[k as usize], &netlist.start, value) != value {
+        let gate = &netlist.gate[k as usize];
+        let pins = pins_at_start(gate, &netlist.start);
+        if drives(&gate.function, &pins[..gate.pins as usize], &value) != value {
             return Some(line);
         }
     }

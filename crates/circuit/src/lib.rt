@@ -4,7 +4,6 @@
 pub mod chip;
 pub mod circuit;
 pub mod drive;
-pub mod drive_values;
 pub mod gate;
 pub mod netlist;
 pub mod site;

@@ -1,10 +1,11 @@
 // The circuit, whose invariant says that it is lawful.
-ghost use Rattle.std.specs.Prelude.{◌≡◌, ℕ, ◌+◌, ◌-◌, ◌^◌, ◌<◌, ◌≤◌, false, Some, None, MatchResult, bit_and, slice_index, slice_index_or};
+ghost use Rattle.std.specs.Prelude.{◌≡◌, ℕ, ◌+◌, ◌<◌, Some, None, MatchResult};
 ghost use Rattle.ternary.specs.Logics.{three_valued};
 ghost use Rattle.circuit.specs.Chips.{value_at, pin_sees, driven_in};
-ghost use Rattle.circuit.specs.Netlists.{gate_at, pin_at, least_pins, products, used_at, inverted_at, pins_of, driven_by, trimmed, buffer, restless, Lawful};
+ghost use Rattle.circuit.specs.Netlists.{gate_at, trimmed, buffer, restless, AtRest, Lawful};
 
 use crate::chip::seen_at;
+use crate::design::Design;
 use crate::drive::drives;
 use crate::gate::{Function, Gate, Sum};
 use crate::netlist::Netlist;
@@ -15,18 +16,8 @@ use ternary::Value;
 #[derive(Clone, Copy)]
 pub struct Circuit {
     netlist: Netlist,
-    ghost fed: { (0 < netlist.inputs) × (netlist.inputs ≤ 8) },
-    ghost gated: { (0 < netlist.gates) × (netlist.gates ≤ 40) },
-    ghost observed: { (0 < netlist.outputs) × (netlist.outputs ≤ 8) },
-    ghost wide: { ((k : ℕ) → k < netlist.gates → (least_pins (gate_at netlist.gate k).function ≤ (gate_at netlist.gate k).pins) × ((gate_at netlist.gate k).pins ≤ 8)) },
-    ghost named: { ((k j : ℕ) → k < netlist.gates → j < (gate_at netlist.gate k).pins → pin_at (gate_at netlist.gate k) j < netlist.inputs + netlist.gates) },
-    ghost summed: { ((k : ℕ) → k < netlist.gates → (0 < products (gate_at netlist.gate k).function) × (products (gate_at netlist.gate k).function ≤ 8)) },
-    ghost used_some: { ((k p : ℕ) → k < netlist.gates → p < products (gate_at netlist.gate k).function → 0 < used_at (gate_at netlist.gate k).pins (gate_at netlist.gate k).function p) },
-    ghost used_within: { ((k p : ℕ) → k < netlist.gates → p < products (gate_at netlist.gate k).function → used_at (gate_at netlist.gate k).pins (gate_at netlist.gate k).function p < 2 ^ (gate_at netlist.gate k).pins) },
-    ghost inverted_used: { ((k p : ℕ) → (k < netlist.gates) × (p < products (gate_at netlist.gate k).function) → bit_and (inverted_at (gate_at netlist.gate k).function p) (used_at (gate_at netlist.gate k).pins (gate_at netlist.gate k).function p) ≡ inverted_at (gate_at netlist.gate k).function p) },
-    ghost gate_lines: { ((i : ℕ) → i < netlist.outputs → (netlist.inputs ≤ slice_index netlist.output i) × (slice_index netlist.output i < netlist.inputs + netlist.gates)) },
-    ghost rising: { ((i : ℕ) → i + 1 < netlist.outputs → slice_index netlist.output i < slice_index netlist.output (i + 1)) },
-    ghost rest: { ((k : ℕ) → k < netlist.gates → slice_index_or netlist.start (netlist.inputs + k) false ≡ driven_by (gate_at netlist.gate k) netlist.start (slice_index_or netlist.start (netlist.inputs + k) false)) },
+    ghost lawful: { Lawful netlist },
+    ghost rest: { AtRest netlist },
 }
 
 impl Circuit {
@@ -55,15 +46,15 @@ impl Circuit {
         }
     }
 
-    /// The circuit of a netlist that is lawful but for its start: given once the start is seen to be at rest, else the lowest line that is not.
-    /// Public only for the job reader, which has checked what is required here.
-    pub fn at_rest(netlist: Netlist) -> Result<Circuit, u8>
-        requires { Lawful netlist }
-        ensures { MatchResult result (λ c. (c.netlist ≡ netlist) × (restless netlist ≡ None)) (λ line. restless netlist ≡ Some line) }
+    /// The circuit of a design: given once its start is seen to be at rest, else the lowest line that is not.
+    pub fn at_rest(design: Design) -> Result<Circuit, u8>
+        ensures { MatchResult result (λ c. (c.netlist ≡ design.netlist) × (restless design.netlist ≡ None)) (λ line. restless design.netlist ≡ Some line) }
     {
-        match first_restless(&netlist) {
+        match design.first_restless() {
             Some(line) => Err(line),
-            None => Ok(Circuit { netlist }),
+            None => Ok(Circuit {
+                netlist: *design.netlist(),
+            }),
         }
     }
 
@@ -123,32 +114,4 @@ impl Circuit {
     {
         &self.netlist
     }
-}
-
-// What the pins of a gate see at the start.
-fn pins_at_start(gate: &Gate, start: &[bool; 48]) -> [bool; 8]
-    ensures { (j : ℕ) → j < 8 → slice_index_or result j false ≡ pins_of gate.now start.now j }
-{
-    let mut pins = [false; 8];
-    for (j, line) in gate.pin.iter().enumerate() {
-        pins[j] = start.get(*line as usize).copied().unwrap_or(false);
-    }
-    pins
-}
-
-// The lowest line that is not at rest at the start.
-fn first_restless(netlist: &Netlist) -> Option<u8>
-    requires { Lawful netlist.now }
-    ensures { result ≡ restless netlist.now }
-{
-    for k in 0..netlist.gates {
-        let line = netlist.inputs + k;
-        let value = netlist.start[line as usize];
-        let gate = &netlist.gate[k as usize];
-        let pins = pins_at_start(gate, &netlist.start);
-        if drives(&gate.function, &pins[..gate.pins as usize], &value) != value {
-            return Some(line);
-        }
-    }
-    None
 }

@@ -3,6 +3,7 @@
 
 pub mod chip;
 pub mod circuit;
+pub mod design;
 pub mod drive;
 pub mod gate;
 pub mod netlist;

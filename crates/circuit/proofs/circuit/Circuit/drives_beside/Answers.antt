@@ -13,4 +13,4 @@ returns c =
     let eight : length c.pins_seen-pins.result ≡ 8 = search rules in
     c.drives.ensures 0
     ∙ driven_row three_valued (λ v (n : ℕ). v) _ c.pins_seen-pins.result 0 (gate_at netlist.gate c.args.k) (pin_sees three_valued netlist c.args.fault lines c.args.k) c.args.own
-    (omega (arith, eight, (c.args.self.now.wide c.args.k c.requires).1)) Zero c.pins_seen-pins.ensures
+    (omega (arith, eight, (c.args.self.now.lawful.gates_lawful c.args.k c.requires).pins_few)) Zero c.pins_seen-pins.ensures

@@ -1,6 +1,6 @@
 use Rattle.std.proofs.Common.{refl, arith, rules}
 use Rattle.circuit.proofs.Filled.{filled_more}
-use Rattle.circuit.proofs.circuit.pins_at_start.Goals as goal
+use Rattle.circuit.proofs.design.pins_at_start.Goals as goal
 
 pub loop-j-init : goal.loop-j-init
 loop-j-init c = record { size_is = refl; filled = λ i l. absurd (omega arith) }

@@ -1,15 +1,9 @@
-use Rattle.std.proofs.Common.{◌+◌, arith}
-use Rattle.format.specs.Descriptions.{stems, made}
+use Rattle.std.proofs.Common.{ap, arith}
+use Rattle.refusal.specs.declared.CircuitFault.TheVariants.{Crowded}
 use Rattle.job.proofs.made.made_list.Goals as goal
 
-pub returns-then-making-gt192 : goal.returns-then-making-gt192
-unfolding made
-returns-then-making-gt192 c =
-    let h = c.add_gates.ensures.holds (stems (c.args.netlist.now.inputs + c.args.netlist.now.gates)) c.add_stems.ensures.holds in
-    (h.counted, c.if-making-gt192.true)
+pub returns-then-length-gt192 : goal.returns-then-length-gt192
+returns-then-length-gt192 c = (ap Crowded c.all_sites-length.ensures.counted, omega (arith, c.all_sites-length.ensures.counted))
 
 pub returns : goal.returns
-unfolding made
-returns c =
-    let h = c.add_gates.ensures.holds (stems (c.args.netlist.now.inputs + c.args.netlist.now.gates)) c.add_stems.ensures.holds in
-    (h.kept c.if-making-gt192.false, omega (arith, h.counted, c.if-making-gt192.false), c.if-making-gt192.false)
+returns c = (c.all_sites-length.ensures.kept c.if-length-gt192.false, omega (arith, c.all_sites-length.ensures.counted), c.if-length-gt192.false)

@@ -24,26 +24,7 @@ use Rattle.step.proofs.Looks.{held_tracks}
 
 -- the invariant of a circuit, as one fact of its netlist
 pub lawful : (c : Circuit) → Lawful c.netlist
-lawful c = record {
-  inputs_some = c.fed.0;
-  inputs_few = c.fed.1;
-  gates_some = c.gated.0;
-  gates_few = c.gated.1;
-  outputs_some = c.observed.0;
-  outputs_few = c.observed.1;
-  gates_lawful = λ k lt. record {
-    pins_enough = (c.wide k lt).0;
-    pins_few = (c.wide k lt).1;
-    named = λ j l. c.named k j lt l;
-    products_some = (c.summed k lt).0;
-    products_few = (c.summed k lt).1;
-    used_some = λ p l. c.used_some k p lt l;
-    used_within = λ p l. c.used_within k p lt l;
-    inverted_used = λ p l. c.inverted_used k p (lt, l);
-  };
-  gate_lines = c.gate_lines;
-  rising = c.rising;
-}
+lawful c = c.lawful
 
 -- a literal by its bit of the mask
 pub literal_by : {A : Type 0} (L : Logic A) (pin : ℕ → A) (inverted j : ℕ) {b : Bool} → bit inverted j ≡ b → literal L pin inverted j ≡ cond b (L.invert (pin j)) (pin j)

@@ -7,9 +7,6 @@ use Rattle.step.proofs.Gates.{product_more}
 use Rattle.step.proofs.gate.product_of.Goals as goal
 use Rattle.step.proofs.gate.product_of.Goals.{then-has, else-has}
 
-pub has-requires : goal.has-requires
-has-requires g c = omega (arith, (c.requires.lawful.gates_lawful c.args.k c.requires.gated).pins_few, c.loop-j-test.true)
-
 pub loop-j-preserved : goal.loop-j-preserved
 loop-j-preserved g c = λ n.
     let m = g.S.FaultSet.member in

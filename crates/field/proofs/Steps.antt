@@ -1,18 +1,14 @@
 -- Steps of reading: a byte that is there, and one thing more in a row.
-use Rattle.std.proofs.Common.{◌≡◌, ℕ, zero, suc, ◌+◌, ◌-◌, ◌<◌, ◌≤◌, true, List, [], ◌∷◌, ◌++◌, length, get_or, take, drop, Ok, Err, sym, refl, ◌∙◌, arith}
+use Rattle.std.proofs.Common.{◌≡◌, ℕ, zero, suc, ◌+◌, ◌-◌, ◌<◌, ◌≤◌, true, List, [], ◌∷◌, ◌++◌, length, get_or, take, Ok, Err, sym, refl, ◌∙◌, arith}
 use Rattle.refusal.specs.declared.FileFault.{FileFault}
 use Rattle.field.specs.declared.byte.Field.{Field}
-use Rattle.std.proofs.lemmas.List.{length-take-le, get_or-take, take_rest, length-drop, length_push}
+use Rattle.std.proofs.lemmas.List.{length-take-le, get_or-take, length_push}
 use Rattle.std.proofs.lemmas.Bool.Decides.{nat_tests}
 use Rattle.field.specs.declared.byte.Field.TheVariants.{Count, Bits, Place}
 use Rattle.field.specs.Rows.{above}
-use Rattle.field.specs.Fields.{Reading, admits, Bounds, byte_of, next, many}
+use Rattle.field.specs.Fields.{Reading, admits, Bounds, next, many}
 
--- a byte that its field takes
-pub byte_taken : (f : Field) (end : ℕ) (s : List ℕ) → 1 ≤ length s → admits f (get_or s 0 0) ≡ true → byte_of f end s ≡ Ok (get_or s 0 0, drop 1 s)
-byte_taken f end [] l h = absurd (omega arith)
-byte_taken f end (b ∷ s) l h = rw h
-
+-- a byte that is taken is within its bounds
 pub bounds_kept : (f : Field) (b : ℕ) → admits f b ≡ true → Bounds f b
 bounds_kept (Count least most) b h = (grind (arith, nat_tests), grind (arith, nat_tests))
 bounds_kept (Bits known) b h = tt
@@ -32,10 +28,6 @@ pub above_last : (inputs at : ℕ) (bytes : List ℕ) → 0 < at → at ≤ leng
 above_last inputs at bytes l h =
     let last : at - 1 < at = omega arith in
     rw (length-take-le at bytes h, get_or-take at bytes (at - 1) 0 last) (grind (arith, nat_tests))
-
--- what is left after a byte is no longer than before it
-pub rest_shorter : (s : List ℕ) (end : ℕ) → length s ≤ end → length (take (length s - 1) (drop 1 s)) ≤ end
-rest_shorter s end h = rw (take_rest s 1, length-drop 1 s) (omega arith)
 
 -- the same in a loop, whatever the whole row gives
 pub row_more : {A : Type 0} (read : List A → List ℕ → Reading A) (m n : ℕ) (before after : List A) (s : List ℕ) (a : A) (rest : List ℕ) (whole : Reading (List A))

@@ -28,3 +28,7 @@ in_a_row step n end s = many (λ before. step before end) n [] s
 -- each call, after fewer than n things, answers as the step says, its things seen by a view
 abbrev pub Each : {A : Type 0} → (Bor (List A) → Unread → Result (A × Unread) FileFault → Type 0) → ℕ → (A → A) → (List A → ℕ → List ℕ → Reading A) → Type 0
 Each {A} Call n view step = (before : Bor (List A)) (s : Unread) (r : Result (A × Unread) FileFault) → length before.now < n → Call before s r → ReadAs view (step (map view before.now)) s r
+
+-- what is told of each call is told of all of them in a row
+pub record Told {A : Type 0} (Call : Bor (List A) → Unread → Result (A × Unread) FileFault → Type 0) (n : ℕ) (s : Unread) (answer : Result (List A × Unread) FileFault) : Type 0 where
+  pub by : (view : A → A) (step : List A → ℕ → List ℕ → Reading A) → Each Call n view step → ReadAs (map view) (in_a_row step n) s answer

@@ -13,9 +13,9 @@ pub struct Unread<'a> {
 }
 
 impl<'a> Unread<'a> {
-    ghost use Rattle.std.specs.Prelude.{◌≡◌, ℕ, ◌-◌, ◌<◌, ◌==◌, List, map};
-    ghost use Rattle.field.specs.Fields.{Reading, byte_of};
-    ghost use Rattle.field.specs.Answers.{Bounded, Each, ReadAs, in_a_row, filled};
+    ghost use Rattle.std.specs.Prelude.{◌≡◌, ℕ, ◌-◌, ◌<◌, ◌==◌};
+    ghost use Rattle.field.specs.Fields.{byte_of};
+    ghost use Rattle.field.specs.Answers.{Bounded, ReadAs, Told, filled};
 
     /// A file, all of it still to be read.
     pub fn new(file: &'a [u8]) -> Unread<'a>
@@ -60,13 +60,14 @@ impl<'a> Unread<'a> {
 
     /// Reads things one after another until the table is full, each in the light of those before it.
     /// Where one is refused, so is the whole, and what the table then holds says nothing.
+    #[tactic(auto, using(crate::proofs::Filling::filled_none, crate::proofs::Filling::filled_whole))]
     pub fn fill<T: Copy, F: Fn(&[T], Unread<'a>) -> Result<(T, Unread<'a>), FileFault>>(
         self,
         table: &mut [T],
         read: F,
     ) -> Result<Unread<'a>, FileFault>
         requires { (before : _) (s : _) → length before.now < length table.old → F.pre read before s }
-        ensures { (view : T → T) (step : List T → ℕ → List ℕ → Reading T) → Each (F.post read) (length table.old) view step → ReadAs (map view) (in_a_row step (length table.old)) self.entry (filled result table.new) }
+        ensures { Told (F.post read) (length table.old) self.entry (filled result table.new) }
     {
         let mut left = self;
         // Kept, no plainer: each thing is read in the light of those before it, so where it goes says which these are

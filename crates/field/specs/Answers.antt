@@ -1,20 +1,19 @@
 -- What the code answers where it reads: a value with what is then left of the file, or why the file is refused.
 use Rattle.std.specs.Prelude.{◌≡◌, ℕ, ◌<◌, List, [], map, length, Ok, Err, Result}
 use Rattle.std.specs.Borrow.{Bor}
+use Rattle.std.proofs.Math.Nat.{le_refl}
 use Rattle.refusal.specs.declared.FileFault.{FileFault}
-use Rattle.field.specs.declared.byte.Field.{Field}
 use Rattle.field.specs.declared.unread.Unread.{Unread}
-use Rattle.field.specs.Fields.{Reading, Bounds, many}
+use Rattle.field.specs.Fields.{Reading, many}
+
+-- a file, all of it still to be read
+abbrev pub whole : Bor (List ℕ) → Unread
+whole file = record { rest = file; end = length file.now; inside = le_refl (length file.now) }
 
 -- the answer, its value seen by a view, is this reading of what was left, and what is left now is of the same file
 abbrev pub ReadAs : {A B : Type 0} → (A → B) → (ℕ → List ℕ → Reading B) → Unread → Result (A × Unread) FileFault → Type 0
 ReadAs view read s (Ok p) = (p.1.end ≡ s.end) × (Ok (view p.0, p.1.rest.now) ≡ read s.end s.rest.now)
 ReadAs view read s (Err e) = Err e ≡ read s.end s.rest.now
-
--- a byte that is taken keeps the bounds of its field
-abbrev pub Bounded : Field → Result (ℕ × Unread) FileFault → Type 0
-Bounded f (Ok p) = Bounds f p.0
-Bounded f (Err e) = Unit {0}
 
 -- an answer that lies in a lent table
 abbrev pub filled : {A : Type 0} → Result Unread FileFault → List A → Result (List A × Unread) FileFault

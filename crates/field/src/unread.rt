@@ -13,9 +13,9 @@ pub struct Unread<'a> {
 }
 
 impl<'a> Unread<'a> {
-    ghost use Rattle.std.specs.Prelude.{◌≡◌, ℕ, ◌-◌, ◌<◌, ◌==◌};
-    ghost use Rattle.field.specs.Fields.{byte_of};
-    ghost use Rattle.field.specs.Answers.{Bounded, ReadAs, Told, filled};
+    ghost use Rattle.std.specs.Prelude.{◌≡◌, ℕ, ◌-◌, ◌<◌, ◌==◌, IfOk};
+    ghost use Rattle.field.specs.Fields.{Bounds, byte_of};
+    ghost use Rattle.field.specs.Answers.{ReadAs, Told, filled};
 
     /// A file, all of it still to be read.
     pub fn new(file: &'a [u8]) -> Unread<'a>
@@ -44,7 +44,7 @@ impl<'a> Unread<'a> {
     /// The next byte, as its field has it.
     pub fn byte(self, field: Field) -> Result<(u8, Unread<'a>), FileFault>
         ensures is { ReadAs (λ b. b) (byte_of field) self.entry result }
-        ensures bounded { Bounded field result }
+        ensures bounded { IfOk result (λ p. Bounds field p.0) }
     {
         match self.rest {
             [byte, rest @ ..] => {

@@ -128,14 +128,15 @@ impl GradingFault {
     {
         match *self {
             GradingFault::Circuit(CircuitFault::File(fault)) => fault.place(),
-            GradingFault::Circuit(CircuitFault::Crowded(length)) => length as usize,
-            GradingFault::Circuit(CircuitFault::Restless(line)) => line as usize,
+            GradingFault::Circuit(CircuitFault::Crowded(length)) => usize::from(length),
+            GradingFault::Circuit(CircuitFault::Restless(line))
+            | GradingFault::Oscillation(line)
+            | GradingFault::Race(line) => usize::from(line),
             GradingFault::Small(rows) => rows,
-            GradingFault::Input(bit) => bit as usize,
+            GradingFault::Input(bit) => usize::from(bit),
+            // Kept, rule of the project: 255 is printed where a ground has no place
             GradingFault::Full => 255,
-            GradingFault::Oscillation(line) => line as usize,
-            GradingFault::Race(line) => line as usize,
-            GradingFault::Unknown(number) => number as usize,
+            GradingFault::Unknown(number) => usize::from(number),
             GradingFault::Narrow(bytes) => bytes,
         }
     }

@@ -1,4 +1,5 @@
-use Rattle.std.proofs.Common.{◌≡◌, ◌≤◌, true, length, Ok, Result, sym, ap, ◌∙◌, subst, rules}
+use Rattle.std.proofs.lemmas.Bool.Decides.{nat_tests}
+use Rattle.std.proofs.Common.{◌≡◌, ℕ, ◌≤◌, Bool, true, ◌==◌, List, arith, length, Ok, Result, sym, ap, ◌∙◌, subst, rules}
 use Rattle.refusal.specs.declared.CircuitFault.{CircuitFault}
 use Rattle.circuit.specs.declared.circuit.Circuit.{Circuit}
 use Rattle.circuit.specs.declared.netlist.Netlist.{Netlist}
@@ -9,14 +10,18 @@ use Rattle.reader.specs.Parts.{listed, listed_in}
 use Rattle.job.proofs.Whole.{netlist_lawful, at_rest, not_at_rest, faults_some, faults_placed}
 use Rattle.job.proofs.read.job_of.Goals as goal
 
+-- where nothing is left
+used : (rest : List ℕ) (empty : Bool) → empty ≡ (length rest == 0) → empty ≡ true → length rest ≤ 0
+used rest empty e h = grind (arith, nat_tests, e, h)
+
 pub faults_of-requires : goal.faults_of-requires
 faults_of-requires c = record {
-  lawful = netlist_lawful c.args.file.now c.in_ok-parts.rest.now c.in_ok-parts.parts.netlist (listed_in c.in_ok-parts.parts.faults) c.in_ok-parts.ensures.is;
+  lawful = netlist_lawful c.args.file.now c.in_ok-parts.rest.rest.now c.in_ok-parts.parts.netlist (listed_in c.in_ok-parts.parts.faults) c.in_ok-parts.ensures.is.1;
   few = c.in_ok-parts.ensures.few;
 }
 
 pub at_rest-requires : goal.at_rest-requires
-at_rest-requires c = netlist_lawful c.args.file.now c.in_ok-parts.rest.now c.in_ok-parts.parts.netlist (listed_in c.in_ok-parts.parts.faults) c.in_ok-parts.ensures.is
+at_rest-requires c = netlist_lawful c.args.file.now c.in_ok-parts.rest.rest.now c.in_ok-parts.parts.netlist (listed_in c.in_ok-parts.parts.faults) c.in_ok-parts.ensures.is.1
 
 pub of-requires : goal.of-requires
 of-requires c =
@@ -24,7 +29,7 @@ of-requires c =
     let list = c.in_ok-faults.faults in
     let few : list.count ≤ 192 = c.in_ok-faults.ensures.0 in
     let room : list.count ≤ length list.fault = search rules in
-    let given = at_rest c.args.file.now c.in_ok-parts.rest.now n (listed_in c.in_ok-parts.parts.faults) (listed list) c.in_ok-parts.ensures.is c.if-rest-gt0.false c.in_ok-faults.ensures.1 c.in-Ok.ensures.1 in
+    let given = at_rest c.args.file.now c.in_ok-parts.rest.rest.now n (listed_in c.in_ok-parts.parts.faults) (listed list) c.in_ok-parts.ensures.is.1 (used c.in_ok-parts.rest.rest.now c.is_empty.result c.is_empty.ensures c.if-not-is_empty.false) c.in_ok-faults.ensures.1 c.in-Ok.ensures.1 in
     record {
       some = (faults_some c.args.file.now n list.count list.fault given room, few);
       room = room;
@@ -37,9 +42,9 @@ same_job e f = rw (e, f)
 pub returns-in-Ok : goal.returns-in-Ok
 returns-in-Ok c =
     same_job (ap (λ (x : Circuit). x.netlist) c.of.ensures.0 ∙ c.in-Ok.ensures.0) c.of.ensures.1
-    ∙ sym (at_rest c.args.file.now c.in_ok-parts.rest.now c.in_ok-parts.parts.netlist (listed_in c.in_ok-parts.parts.faults) (listed c.in_ok-faults.faults) c.in_ok-parts.ensures.is c.if-rest-gt0.false c.in_ok-faults.ensures.1 c.in-Ok.ensures.1)
+    ∙ sym (at_rest c.args.file.now c.in_ok-parts.rest.rest.now c.in_ok-parts.parts.netlist (listed_in c.in_ok-parts.parts.faults) (listed c.in_ok-faults.faults) c.in_ok-parts.ensures.is.1 (used c.in_ok-parts.rest.rest.now c.is_empty.result c.is_empty.ensures c.if-not-is_empty.false) c.in_ok-faults.ensures.1 c.in-Ok.ensures.1)
 
 pub returns-in-Err : goal.returns-in-Err
 returns-in-Err c =
-    not_at_rest c.args.file.now c.in_ok-parts.rest.now c.in_ok-parts.parts.netlist (listed_in c.in_ok-parts.parts.faults) (listed c.in_ok-faults.faults) c.in_ok-parts.ensures.is c.if-rest-gt0.false c.in_ok-faults.ensures.1
+    not_at_rest c.args.file.now c.in_ok-parts.rest.rest.now c.in_ok-parts.parts.netlist (listed_in c.in_ok-parts.parts.faults) (listed c.in_ok-faults.faults) c.in_ok-parts.ensures.is.1 (used c.in_ok-parts.rest.rest.now c.is_empty.result c.is_empty.ensures c.if-not-is_empty.false) c.in_ok-faults.ensures.1
     c.in-Err.line c.in-Err.ensures

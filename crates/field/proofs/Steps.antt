@@ -1,5 +1,5 @@
--- Steps of reading: a byte that is there, and one thing more in a row.
-use Rattle.std.proofs.Common.{◌≡◌, ℕ, zero, suc, ◌+◌, ◌-◌, ◌<◌, ◌≤◌, true, List, [], ◌∷◌, ◌++◌, length, get_or, take, Ok, Err, sym, refl, ◌∙◌, arith}
+-- Steps of reading: a byte that is taken, and one thing more in a row.
+use Rattle.std.proofs.Common.{◌≡◌, ℕ, zero, suc, ◌+◌, ◌-◌, ◌<◌, ◌≤◌, true, List, [], ◌∷◌, ◌++◌, length, get_or, take, Ok, Err, sym, refl, arith}
 use Rattle.refusal.specs.declared.FileFault.{FileFault}
 use Rattle.field.specs.declared.byte.Field.{Field}
 use Rattle.std.proofs.lemmas.List.{length-take-le, get_or-take, length_push}
@@ -14,29 +14,22 @@ bounds_kept (Count least most) b h = (grind (arith, nat_tests), grind (arith, na
 bounds_kept (Bits known) b h = tt
 bounds_kept (Place from below) b h = (grind (arith, nat_tests), grind (arith, nat_tests))
 
--- one more of a row, by what reading it gave
-pub many_more : {A : Type 0} (read : List A → List ℕ → Reading A) (m n : ℕ) (before : List A) (s : List ℕ) (a : A) (rest : List ℕ) → m ≡ suc n → read before s ≡ Ok (a, rest) → many read m before s ≡ many read n (before ++ a ∷ []) rest
-many_more read m n before s a rest e h = rw (e, h)
-
--- or refused
-pub many_refused : {A : Type 0} (read : List A → List ℕ → Reading A) (m : ℕ) (before : List A) (s : List ℕ) (e : FileFault) → 0 < m → read before s ≡ Err e → many read m before s ≡ Err e
-many_refused read zero before s e l h = absurd (omega arith)
-many_refused read (suc n) before s e l h = rw h
-
 -- the next output is above the last one read
 pub above_last : (inputs at : ℕ) (bytes : List ℕ) → 0 < at → at ≤ length bytes → above inputs (take at bytes) ≡ get_or bytes (at - 1) 0 + 1
 above_last inputs at bytes l h =
     let last : at - 1 < at = omega arith in
     rw (length-take-le at bytes h, get_or-take at bytes (at - 1) 0 last) (grind (arith, nat_tests))
 
--- the same in a loop, whatever the whole row gives
+-- one thing more in a row, whatever the whole row gives
 pub row_more : {A : Type 0} (read : List A → List ℕ → Reading A) (m n : ℕ) (before after : List A) (s : List ℕ) (a : A) (rest : List ℕ) (whole : Reading (List A))
     → m ≡ suc n → after ≡ before ++ a ∷ [] → Ok (a, rest) ≡ read before s → many read m before s ≡ whole → many read n after rest ≡ whole
-row_more read m n before after s a rest whole e t h w = rw t (sym (many_more read m n before s a rest e (sym h)) ∙ w)
+row_more read m n before after s a rest whole e t h w = rw t (rw (e, sym h) at w)
 
+-- or one that is refused
 pub row_refused : {A : Type 0} (read : List A → List ℕ → Reading A) (m : ℕ) (before : List A) (s : List ℕ) (e : FileFault) (whole : Reading (List A))
     → 0 < m → Err e ≡ read before s → many read m before s ≡ whole → Err e ≡ whole
-row_refused read m before s e whole l h w = sym (many_refused read m before s e l (sym h)) ∙ w
+row_refused read zero before s e whole l h w = absurd (omega arith)
+row_refused read (suc n) before s e whole l h w = rw (sym h) at w
 
 -- readers that agree as long as fewer than m things were read give the same row of m
 pub many_same : {A : Type 0} (f g : List A → List ℕ → Reading A) (m : ℕ) → ((before : List A) (s : List ℕ) → length before < m → f before s ≡ g before s)

@@ -1,3 +1,3 @@
 pub mod Filled
-pub mod Openings
+pub mod Masks
 pub mod Same

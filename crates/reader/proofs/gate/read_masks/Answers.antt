@@ -1,5 +1,5 @@
 use Rattle.std.proofs.Common.{refl, sym}
-use Rattle.reader.proofs.Openings.{masks_absent, masks_present}
+use Rattle.reader.proofs.Masks.{masks_absent, masks_present}
 use Rattle.reader.proofs.gate.read_masks.Goals as goal
 
 pub returns-then-opening : goal.returns-then-opening

@@ -1,6 +1,5 @@
 -- What comes of reading a file field by field: a value with what is left of the file, or the first refusal.
 use Rattle.std.specs.Prelude.{ℕ, zero, suc, ◌-◌, ◌<◌, ◌≤◌, Bool, cond, ◌&&◌, List, [], ◌∷◌, ◌++◌, length, Ok, Err, Result, ◌==◌, bit_and, nat_le, nat_lt}
-use Rattle.std.specs.Borrow.{Bor}
 use Rattle.refusal.specs.declared.FileFault.{FileFault}
 use Rattle.refusal.specs.declared.FileFault.TheVariants.{Short, Range, Stray, Nowhere}
 use Rattle.field.specs.declared.byte.Field.{Field}
@@ -8,16 +7,6 @@ use Rattle.field.specs.declared.byte.Field.TheVariants.{Count, Bits, Place}
 
 abbrev pub Reading : Type 0 → Type 0
 Reading A = Result (A × List ℕ) FileFault
-
--- the same, where the code has a slice for what is left
-abbrev pub seen : {A : Type 0} → Result (A × Bor (List ℕ)) FileFault → Reading A
-seen (Ok p) = Ok (p.0, p.1.now)
-seen (Err e) = Err e
-
--- and what is left is no longer than the file
-abbrev pub Inside : {A : Type 0} → ℕ → Result (A × Bor (List ℕ)) FileFault → Type 0
-Inside end (Ok p) = length p.1.now ≤ end
-Inside end (Err e) = Unit {0}
 
 abbrev pub admits : Field → ℕ → Bool
 admits (Count least most) b = nat_le least b && nat_le b most
@@ -29,10 +18,6 @@ abbrev pub Bounds : Field → ℕ → Type 0
 Bounds (Count least most) b = (least ≤ b) × (b ≤ most)
 Bounds (Bits known) b = Unit {0}
 Bounds (Place from below) b = (from ≤ b) × (b < below)
-
-abbrev pub Bounded : Field → Result (ℕ × Bor (List ℕ)) FileFault → Type 0
-Bounded f (Ok p) = Bounds f p.0
-Bounded f (Err e) = Unit {0}
 
 abbrev pub refusal : Field → ℕ → FileFault
 refusal (Count least most) place = Range place

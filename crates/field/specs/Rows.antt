@@ -1,7 +1,5 @@
 -- Rows of bytes: which field comes after the bytes before it.
-use Rattle.std.specs.Prelude.{ℕ, ◌+◌, ◌-◌, ◌*◌, ◌^◌, min, cond, List, [], length, take, Ok, Err, Result, ◌==◌, slice_index}
-use Rattle.std.specs.Borrow.{Bor}
-use Rattle.refusal.specs.declared.FileFault.{FileFault}
+use Rattle.std.specs.Prelude.{ℕ, ◌+◌, ◌-◌, ◌*◌, ◌^◌, min, cond, List, [], length, ◌==◌, slice_index}
 use Rattle.field.specs.declared.byte.Field.{Field}
 use Rattle.field.specs.declared.byte.Field.TheVariants.{Count, Bits, Place}
 use Rattle.field.specs.declared.row.Row.{Row}
@@ -25,8 +23,3 @@ field_after (Inverted used) before = Bits (slice_index used (length before))
 
 abbrev pub row_of : Row → ℕ → ℕ → List ℕ → Reading (List ℕ)
 row_of row count end s = many (λ before. byte_of (field_after row before) end) count [] s
-
--- the first places of a table that was read, and what is left of the file
-abbrev pub front : {A : Type 0} → ℕ → Result (List A × Bor (List ℕ)) FileFault → Reading (List A)
-front n (Ok p) = Ok (take n p.0, p.1.now)
-front n (Err e) = Err e

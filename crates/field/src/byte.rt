@@ -1,6 +1,6 @@
 // One byte of a file, tested by its field.
-ghost use Rattle.std.specs.Prelude.{◌≡◌, ℕ, ◌+◌, ◌-◌, ◌^◌, ◌≤◌, min, length};
-ghost use Rattle.field.specs.Fields.{admits, refusal, byte_of, seen, Inside, Bounded};
+ghost use Rattle.std.specs.Prelude.{◌≡◌, ◌-◌, ◌^◌, min};
+ghost use Rattle.field.specs.Fields.{admits, refusal};
 
 use refusal::FileFault;
 
@@ -36,25 +36,6 @@ impl Field {
             Field::Bits { .. } => FileFault::Stray(place),
             Field::Place { .. } => FileFault::Nowhere(place),
         }
-    }
-}
-
-/// The first byte of what is left of a file of `end` bytes.
-/// Public only for the readers above, which are inside such a file.
-pub fn read_byte(s: &[u8], field: Field, end: usize) -> Result<(u8, &[u8]), FileFault>
-    requires { length s.now ≤ end }
-    ensures is { seen result ≡ byte_of field end s.now }
-    ensures inside { Inside end result }
-    ensures bounded { Bounded field result }
-{
-    match s {
-        [byte, rest @ ..] => {
-            if !field.admits(*byte) {
-                return Err(field.refusal(end - s.len()));
-            }
-            Ok((*byte, rest))
-        }
-        _ => Err(FileFault::Short(end)),
     }
 }
 

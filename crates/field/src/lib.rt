@@ -3,3 +3,4 @@
 
 pub mod byte;
 pub mod row;
+pub mod unread;

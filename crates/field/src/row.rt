@@ -1,11 +1,13 @@
 // Rows of at most eight bytes, whose fields may depend on the bytes before.
-ghost use Rattle.std.specs.Prelude.{◌≡◌, ℕ, ◌<◌, ◌≤◌, [], length, take};
-ghost use Rattle.field.specs.Fields.{Inside};
-ghost use Rattle.field.specs.Rows.{field_after, row_of, front};
+ghost use Rattle.std.specs.Prelude.{◌≡◌, ◌<◌, ◌≤◌, length, take};
+ghost use Rattle.field.specs.Answers.{ReadAs, filled};
+ghost use Rattle.field.specs.Rows.{field_after, row_of};
 
-use crate::byte::{Field, low_bits, read_byte};
+use crate::byte::{Field, low_bits};
+use crate::unread::Unread;
 use refusal::FileFault;
 
+// Kept, no plainer: `row_of row count` promises a row by its name, where a closure has a promise only over all that it may give
 /// What a row of bytes holds.
 #[derive(Clone, Copy)]
 pub enum Row {
@@ -22,22 +24,20 @@ pub enum Row {
 }
 
 impl Row {
-    // The field of the byte at `at`, after the bytes before it.
-    fn field(&self, at: u8, bytes: &[u8; 8]) -> Field
-        requires { at < 8 }
-        ensures { result ≡ field_after self.now (take at bytes.now) }
+    // The field of the byte after these.
+    fn field(&self, before: &[u8]) -> Field
+        requires { length before.now < 8 }
+        ensures { result ≡ field_after self.now before.now }
     {
         match *self {
             Row::Outputs { inputs, lines } => {
-                let from = if at == 0 {
-                    u16::from(inputs)
-                } else {
-                    u16::from(bytes[(at - 1) as usize]) + 1
-                };
+                let from = before
+                    .last()
+                    .map_or(u16::from(inputs), |last| u16::from(*last) + 1);
                 Field::Place { from, below: lines }
             }
             Row::Start { lines } => Field::Bits {
-                known: low_bits(lines.saturating_sub(8 * at)),
+                known: low_bits(lines.saturating_sub(8 * before.len() as u8)),
             },
             Row::Pins { lines } => Field::Place {
                 from: 0,
@@ -48,26 +48,29 @@ impl Row {
                 most: low_bits(pins),
             },
             Row::Inverted { used } => Field::Bits {
-                known: used[at as usize],
+                known: used[before.len()],
             },
         }
     }
 }
 
-/// The next `count` bytes of a file of `end` bytes, as the row has them.
-/// Public only for the readers above, which keep to rows of eight.
-pub fn read_row(s: &[u8], row: Row, count: u8, end: usize) -> Result<([u8; 8], &[u8]), FileFault>
-    requires within { length s.now ≤ end }
-    requires few { count ≤ 8 }
-    ensures is { front count result ≡ row_of row count end s.now }
-    ensures inside { Inside end result }
-{
-    let mut bytes = [0; 8];
-    let mut rest = s;
-    for at in 0..count {
-        let (byte, after) = read_byte(rest, row.field(at, &bytes), end)?;
-        bytes[at as usize] = byte;
-        rest = after;
+impl<'a> Unread<'a> {
+    // Fills a table with the bytes of a row.
+    fn fill_row(self, row: Row, bytes: &mut [u8]) -> Result<Unread<'a>, FileFault>
+        requires { length bytes.old ≤ 8 }
+        ensures { ReadAs (λ b. b) (row_of row (length bytes.old)) self.entry (filled result bytes.new) }
+    {
+        self.fill(bytes, |before, rest| rest.byte(row.field(before)))
     }
-    Ok((bytes, rest))
+
+    /// The next `count` bytes, as the row has them.
+    /// Public only for the readers above, which keep to rows of eight.
+    pub fn row(self, row: Row, count: u8) -> Result<([u8; 8], Unread<'a>), FileFault>
+        requires { count ≤ 8 }
+        ensures { ReadAs (take count) (row_of row count) self.entry result }
+    {
+        let mut bytes = [0; 8];
+        let rest = self.fill_row(row, &mut bytes[..count as usize])?;
+        Ok((bytes, rest))
+    }
 }

@@ -30,8 +30,8 @@ fn job_of(file: &[u8]) -> Result<Job, CircuitFault>
     ensures { gives result ≡ job_of file.now }
 {
     let (parts, rest) = read_parts(file)?;
-    if rest.len() > 0 {
-        let place = file.len() - rest.len();
+    if !rest.is_empty() {
+        let place = rest.place();
         return Err(CircuitFault::File(FileFault::Overlong(place)));
     }
     let design = Design::of(parts.netlist);

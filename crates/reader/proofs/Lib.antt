@@ -1,2 +1,3 @@
-pub mod Openings
+pub mod Filled
+pub mod Masks
 pub mod Same

@@ -1,7 +1,5 @@
 -- The code's parts of a file, with each table cut to the places that it needs.
-use Rattle.std.specs.Prelude.{ℕ, ◌≤◌, List, take, Some, None, Ok, Err, Option, Result}
-use Rattle.std.specs.Borrow.{Bor}
-use Rattle.refusal.specs.declared.FileFault.{FileFault}
+use Rattle.std.specs.Prelude.{◌≤◌, List, take, Some, None, Option}
 use Rattle.circuit.specs.declared.netlist.Netlist.{Netlist}
 use Rattle.circuit.specs.declared.site.Fault.{Fault}
 use Rattle.circuit.specs.declared.site.FaultList.{FaultList}
@@ -22,7 +20,3 @@ parts_seen p = (trimmed p.netlist, listed_in p.faults)
 abbrev pub Few : Option FaultList → Type 0
 Few None = Unit {0}
 Few (Some list) = list.count ≤ 192
-
-abbrev pub FewNamed : Result (Parts × Bor (List ℕ)) FileFault → Type 0
-FewNamed (Ok p) = Few p.0.faults
-FewNamed (Err e) = Unit {0}

@@ -1,79 +1,77 @@
 // The record of a gate.
-ghost use Rattle.std.specs.Prelude.{◌≡◌, ℕ, ◌≤◌, map, length, take, replicate, if◌then◌else◌};
-ghost use Rattle.field.specs.Fields.{Inside};
-ghost use Rattle.field.specs.Rows.{row_of, front};
+ghost use Rattle.std.specs.Prelude.{◌≡◌, ◌≤◌, map, take, replicate, if◌then◌else◌};
+ghost use Rattle.field.specs.Answers.{ReadAs};
+ghost use Rattle.field.specs.Rows.{row_of};
 ghost use Rattle.field.specs.declared.row.Row.TheVariants.{Inverted};
-ghost use Rattle.circuit.specs.Gates.{bit};
 ghost use Rattle.circuit.specs.Netlists.{trimmed_function, trimmed_gate};
 ghost use Rattle.format.specs.Reading.{opening_of, optional, complex_of, c_element_of, function_of, gate_of, gates_of};
-ghost use Rattle.reader.specs.Views.{seen_by};
+ghost use Rattle.format.specs.Written.{map_of};
 
 use circuit::drive::has;
 use circuit::gate::{Function, Gate, Sum};
-use field::byte::{Field, low_bits, read_byte};
-use field::row::{Row, read_row};
+use field::byte::{Field, low_bits};
+use field::row::Row;
+use field::unread::Unread;
 use refusal::FileFault;
 
-// The map and the pin count that a gate's record opens with.
+// What a gate's record opens with: whether products follow, whether inverted masks follow, and the pin count.
 #[derive(Clone, Copy)]
 struct Opening {
-    map: u8,
+    complex: bool,
+    masks: bool,
     pins: u8,
 }
 
 // A complex gate has at least one pin, a C-element two.
-fn least_pins(map: u8) -> u8
-    ensures { result ≡ (if bit map 0 then 1 else 2) }
+fn least_pins(complex: bool) -> u8
+    ensures { result ≡ (if complex then 1 else 2) }
 {
-    if has(map, 0) { 1 } else { 2 }
+    if complex { 1 } else { 2 }
 }
 
 // Reads a record's opening: a byte that is there and wrong comes before one that is missing.
-fn read_opening(s: &[u8], end: usize) -> Result<(Opening, &[u8]), FileFault>
-    requires { length s.now ≤ end }
-    ensures is { seen_by (λ o. (o.map, o.pins)) result ≡ opening_of end s.now }
-    ensures inside { Inside end result }
+fn read_opening(s: Unread) -> Result<(Opening, Unread), FileFault>
+    ensures { ReadAs (λ o. (map_of o.complex o.masks, o.pins)) opening_of s.entry result }
 {
     let map_field = Field::Bits { known: 3 };
-    match s {
+    match s.rest {
         [map, pins, rest @ ..] => {
             if !map_field.admits(*map) {
-                return Err(map_field.refusal(end - s.len()));
+                return Err(map_field.refusal(s.place()));
             }
+            let complex = has(*map, 0);
             let pins_field = Field::Count {
-                least: least_pins(*map),
+                least: least_pins(complex),
                 most: 8,
             };
             if !pins_field.admits(*pins) {
-                return Err(pins_field.refusal(end - s.len() + 1));
+                return Err(pins_field.refusal(s.place() + 1));
             }
-            Ok((
-                Opening {
-                    map: *map,
-                    pins: *pins,
-                },
-                rest,
-            ))
+            let opening = Opening {
+                complex,
+                masks: has(*map, 1),
+                pins: *pins,
+            };
+            let end = s.end;
+            Ok((opening, Unread { rest, end }))
         }
         [map] => {
             if !map_field.admits(*map) {
-                return Err(map_field.refusal(end - s.len()));
+                return Err(map_field.refusal(s.place()));
             }
-            Err(FileFault::Short(end))
+            Err(FileFault::Short(s.end))
         }
-        [] => Err(FileFault::Short(end)),
+        [] => Err(FileFault::Short(s.end)),
     }
 }
 
 // The products of a complex gate: a count, used masks, and inverted masks where they follow.
-fn read_complex(s: &[u8], opening: Opening, end: usize) -> Result<(Function, &[u8]), FileFault>
-    requires { length s.now ≤ end }
-    ensures is { seen_by trimmed_function result ≡ complex_of (bit opening.map 1) opening.pins end s.now }
-    ensures inside { Inside end result }
+fn read_complex(s: Unread, opening: Opening) -> Result<(Function, Unread), FileFault>
+    ensures { ReadAs trimmed_function (complex_of opening.masks opening.pins) s.entry result }
 {
-    let (products, rest) = read_byte(s, Field::Count { least: 1, most: 8 }, end)?;
-    let (used, rest) = read_row(rest, Row::Used { pins: opening.pins }, products, end)?;
-    let (inverted, rest) = read_masks(rest, opening, used, products, end)?;
+    let (products, rest) = s.byte(Field::Count { least: 1, most: 8 })?;
+    let (used, rest) = rest.row(Row::Used { pins: opening.pins }, products)?;
+    let (inverted, rest) = read_masks(rest, opening, used, products)?;
     let sum = Sum {
         products,
         used,
@@ -84,60 +82,52 @@ fn read_complex(s: &[u8], opening: Opening, end: usize) -> Result<(Function, &[u
 
 // The inverted masks of products, all 0 where none follow.
 fn read_masks(
-    s: &[u8],
+    s: Unread,
     opening: Opening,
     used: [u8; 8],
     products: u8,
-    end: usize,
-) -> Result<([u8; 8], &[u8]), FileFault>
-    requires within { length s.now ≤ end }
-    requires few { products ≤ 8 }
-    ensures is { front products result ≡ optional (bit opening.map 1) (replicate products 0) (row_of (Inverted (take products used)) products end) s.now }
-    ensures inside { Inside end result }
+) -> Result<([u8; 8], Unread), FileFault>
+    requires { products ≤ 8 }
+    ensures { ReadAs (take products) (λ end. optional opening.masks (replicate products 0) (row_of (Inverted (take products used)) products end)) s.entry result }
 {
-    if !has(opening.map, 1) {
-        return Ok(([0; 8], s));
+    if opening.masks {
+        s.row(Row::Inverted { used }, products)
+    } else {
+        Ok(([0; 8], s))
     }
-    read_row(s, Row::Inverted { used }, products, end)
 }
 
 // A C-element's inverted mask, 0 where none follows.
-fn read_c_element(s: &[u8], opening: Opening, end: usize) -> Result<(Function, &[u8]), FileFault>
-    requires { length s.now ≤ end }
-    ensures is { seen_by trimmed_function result ≡ c_element_of (bit opening.map 1) opening.pins end s.now }
-    ensures inside { Inside end result }
+fn read_c_element(s: Unread, opening: Opening) -> Result<(Function, Unread), FileFault>
+    ensures { ReadAs trimmed_function (c_element_of opening.masks opening.pins) s.entry result }
 {
-    if !has(opening.map, 1) {
+    if !opening.masks {
         return Ok((Function::CElement { inverted: 0 }, s));
     }
     let known = low_bits(opening.pins);
-    let (inverted, rest) = read_byte(s, Field::Bits { known }, end)?;
+    let (inverted, rest) = s.byte(Field::Bits { known })?;
     Ok((Function::CElement { inverted }, rest))
 }
 
 // What follows the pins of a gate.
-fn read_function(s: &[u8], opening: Opening, end: usize) -> Result<(Function, &[u8]), FileFault>
-    requires { length s.now ≤ end }
-    ensures is { seen_by trimmed_function result ≡ function_of opening.map opening.pins end s.now }
-    ensures inside { Inside end result }
+fn read_function(s: Unread, opening: Opening) -> Result<(Function, Unread), FileFault>
+    ensures { ReadAs trimmed_function (function_of (map_of opening.complex opening.masks) opening.pins) s.entry result }
 {
-    if has(opening.map, 0) {
-        read_complex(s, opening, end)
+    if opening.complex {
+        read_complex(s, opening)
     } else {
-        read_c_element(s, opening, end)
+        read_c_element(s, opening)
     }
 }
 
 // A gate's record, in a circuit of so many lines.
-fn read_gate(s: &[u8], lines: u8, end: usize) -> Result<(Gate, &[u8]), FileFault>
-    requires { length s.now ≤ end }
-    ensures is { seen_by trimmed_gate result ≡ gate_of lines end s.now }
-    ensures inside { Inside end result }
+fn read_gate(s: Unread, lines: u8) -> Result<(Gate, Unread), FileFault>
+    ensures { ReadAs trimmed_gate (gate_of lines) s.entry result }
 {
-    let (opening, rest) = read_opening(s, end)?;
+    let (opening, rest) = read_opening(s)?;
     let pins = opening.pins;
-    let (pin, rest) = read_row(rest, Row::Pins { lines }, pins, end)?;
-    let (function, rest) = read_function(rest, opening, end)?;
+    let (pin, rest) = rest.row(Row::Pins { lines }, pins)?;
+    let (function, rest) = read_function(rest, opening)?;
     let gate = Gate {
         pins,
         pin,
@@ -147,28 +137,19 @@ fn read_gate(s: &[u8], lines: u8, end: usize) -> Result<(Gate, &[u8]), FileFault
 }
 
 // The records of all gates, in a circuit of so many lines.
-pub(crate) fn read_gates(
-    s: &[u8],
-    lines: u8,
-    gates: u8,
-    end: usize,
-) -> Result<([Gate; 40], &[u8]), FileFault>
-    requires within { length s.now ≤ end }
-    requires few { gates ≤ 40 }
-    ensures is { seen_by (λ table. map trimmed_gate (take gates table)) result ≡ gates_of lines gates end s.now }
-    ensures inside { Inside end result }
+pub(crate) fn read_gates(s: Unread, lines: u8, gates: u8) -> Result<([Gate; 40], Unread), FileFault>
+    requires { gates ≤ 40 }
+    ensures { ReadAs (λ table. map trimmed_gate (take gates table)) (gates_of lines gates) s.entry result }
 {
-    let none = Gate {
+    let blank = Gate {
         pins: 0,
         pin: [0; 8],
         function: Function::CElement { inverted: 0 },
     };
-    let mut table = [none; 40];
-    let mut rest = s;
-    for k in 0..gates {
-        let (gate, after) = read_gate(rest, lines, end)?;
-        table[k as usize] = gate;
-        rest = after;
-    }
+    let mut table = [blank; 40];
+    let rest = s.fill(
+        &mut table[..gates as usize],
+        |_, rest| read_gate(rest, lines),
+    )?;
     Ok((table, rest))
 }

@@ -2,6 +2,7 @@
 #![tactic(auto)]
 
 mod fault;
+mod flags;
 mod gate;
 mod head;
 pub mod parts;

@@ -1,16 +1,15 @@
 // All the fields of a job file.
-ghost use Rattle.std.specs.Prelude.{◌≡◌, ℕ, ◌≤◌, length};
-ghost use Rattle.field.specs.Fields.{Inside};
+ghost use Rattle.std.specs.Prelude.{IfOk};
+ghost use Rattle.field.specs.Answers.{ReadAs, whole};
 ghost use Rattle.format.specs.Reading.{parts_of};
-ghost use Rattle.reader.specs.Views.{seen_by};
-ghost use Rattle.reader.specs.Parts.{parts_seen, FewNamed};
+ghost use Rattle.reader.specs.Parts.{parts_seen, Few};
 
 use crate::fault::read_faults;
 use crate::gate::read_gates;
 use crate::head::read_head;
-use circuit::drive::has;
 use circuit::netlist::Netlist;
 use circuit::site::FaultList;
+use field::unread::Unread;
 use refusal::FileFault;
 
 /// A netlist, and the faults where the file names them.
@@ -20,15 +19,13 @@ pub struct Parts {
     pub faults: Option<FaultList>,
 }
 
-/// The fields of a file, from left to right, and the bytes left over.
-pub fn read_parts(file: &[u8]) -> Result<(Parts, &[u8]), FileFault>
-    ensures is { seen_by parts_seen result ≡ parts_of (length file.now) file.now }
-    ensures inside { Inside (length file.now) result }
-    ensures few { FewNamed result }
+/// The fields of a file, from left to right, and what is left over.
+pub fn read_parts(file: &[u8]) -> Result<(Parts, Unread), FileFault>
+    ensures is { ReadAs parts_seen parts_of (whole file.entry) result }
+    ensures few { IfOk result (λ p. Few p.0.faults) }
 {
-    let end = file.len();
-    let (head, rest) = read_head(file, end)?;
-    let (gate, rest) = read_gates(rest, head.inputs + head.gates, head.gates, end)?;
+    let (head, rest) = read_head(Unread::new(file))?;
+    let (gate, rest) = read_gates(rest, head.inputs + head.gates, head.gates)?;
     let output = head.output;
     let start = head.start;
     let netlist = Netlist {
@@ -39,11 +36,11 @@ pub fn read_parts(file: &[u8]) -> Result<(Parts, &[u8]), FileFault>
         output,
         start,
     };
-    if !has(head.map, 1) {
+    if !head.with_faults {
         let faults = None;
         return Ok((Parts { netlist, faults }, rest));
     }
-    let (list, rest) = read_faults(rest, &netlist, end)?;
+    let (list, rest) = read_faults(rest, &netlist)?;
     let faults = Some(list);
     Ok((Parts { netlist, faults }, rest))
 }

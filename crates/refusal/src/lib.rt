@@ -65,16 +65,29 @@ impl From<CircuitFault> for GradingFault {
 }
 
 impl FileFault {
-    // Its number and its place, for the layers above.
-    fn parts(&self) -> (u8, usize)
-        ensures { (result.0 ≡ number_of (Circuit (File self.now))) × (result.1 ≡ place_of (Circuit (File self.now))) }
+    // Its number, for the layers above.
+    fn number(&self) -> u8
+        ensures { result ≡ number_of (Circuit (File self.now)) }
+    {
+        match self {
+            FileFault::Short(_) => 1,
+            FileFault::Range(_) => 2,
+            FileFault::Stray(_) => 3,
+            FileFault::Nowhere(_) => 4,
+            FileFault::Overlong(_) => 5,
+        }
+    }
+
+    // The offset that it names.
+    fn place(&self) -> usize
+        ensures { result ≡ place_of (Circuit (File self.now)) }
     {
         match *self {
-            FileFault::Short(place) => (1, place),
-            FileFault::Range(place) => (2, place),
-            FileFault::Stray(place) => (3, place),
-            FileFault::Nowhere(place) => (4, place),
-            FileFault::Overlong(place) => (5, place),
+            FileFault::Short(place)
+            | FileFault::Range(place)
+            | FileFault::Stray(place)
+            | FileFault::Nowhere(place)
+            | FileFault::Overlong(place) => place,
         }
     }
 }
@@ -85,7 +98,7 @@ impl GradingFault {
         ensures { result ≡ number_of self.now }
     {
         match *self {
-            GradingFault::Circuit(CircuitFault::File(fault)) => fault.parts().0,
+            GradingFault::Circuit(CircuitFault::File(fault)) => fault.number(),
             GradingFault::Circuit(CircuitFault::Crowded(_)) => 6,
             GradingFault::Circuit(CircuitFault::Restless(_)) => 7,
             GradingFault::Small(_) => 8,
@@ -114,15 +127,16 @@ impl GradingFault {
         ensures { result ≡ place_of self.now }
     {
         match *self {
-            GradingFault::Circuit(CircuitFault::File(fault)) => fault.parts().1,
-            GradingFault::Circuit(CircuitFault::Crowded(length)) => length as usize,
-            GradingFault::Circuit(CircuitFault::Restless(line)) => line as usize,
+            GradingFault::Circuit(CircuitFault::File(fault)) => fault.place(),
+            GradingFault::Circuit(CircuitFault::Crowded(length)) => usize::from(length),
+            GradingFault::Circuit(CircuitFault::Restless(line))
+            | GradingFault::Oscillation(line)
+            | GradingFault::Race(line) => usize::from(line),
             GradingFault::Small(rows) => rows,
-            GradingFault::Input(bit) => bit as usize,
+            GradingFault::Input(bit) => usize::from(bit),
+            // Kept, rule of the project: 255 is printed where a ground has no place
             GradingFault::Full => 255,
-            GradingFault::Oscillation(line) => line as usize,
-            GradingFault::Race(line) => line as usize,
-            GradingFault::Unknown(number) => number as usize,
+            GradingFault::Unknown(number) => usize::from(number),
             GradingFault::Narrow(bytes) => bytes,
         }
     }

@@ -1,45 +1,38 @@
-use Rattle.std.proofs.Common.{◌≡◌, ℕ, suc, ◌+◌, ◌-◌, ◌<◌, List, [], length, take, Ok, sym, refl, ◌∙◌, arith}
-use native.Mathlib.Nat.{sub-zero}
-use Rattle.std.proofs.lemmas.List.{length-set, take_more_set}
+use Rattle.std.proofs.Common.{◌≡◌, ℕ, ◌+◌, List, map, take, Ok, Err, sym, ◌∙◌, rules}
+use Rattle.std.proofs.lemmas.List.{length-take-le, map-id}
 use Rattle.std.proofs.lemmas.Result.{err_from_is_err_and}
+use Rattle.refusal.specs.declared.FileFault.{FileFault}
 use Rattle.circuit.specs.declared.gate.Gate.{Gate}
+use Rattle.circuit.specs.declared.site.Fault.{Fault}
 use Rattle.field.specs.declared.byte.Field.TheVariants.{Count}
-use Rattle.field.specs.Fields.{byte_of, many}
-use Rattle.field.proofs.Steps.{row_more, row_refused}
+use Rattle.field.specs.declared.unread.Unread.{Unread}
+use Rattle.field.specs.Fields.{byte_of}
+use Rattle.field.specs.Answers.{in_a_row}
 use Rattle.format.specs.Reading.{fault_of, faults_of}
+use Rattle.reader.proofs.Filled.{first_places, place_refused}
 use Rattle.reader.proofs.fault.read_faults.Goals as goal
 
--- what follows the count
-counted : (inputs lines : ℕ) (gates : List Gate) (end count : ℕ) (s rest : List ℕ) → Ok (count, rest) ≡ byte_of (Count 1 192) end s → many (λ before. fault_of inputs lines gates end) (count - 0) [] rest ≡ faults_of inputs lines gates end s
-counted inputs lines gates end count s rest e = rw (sub-zero count, sym e)
+-- faults after their count
+module _ (inputs lines : ℕ) (gates : List Gate) (s rest : Unread) (count : ℕ) (end : rest.end ≡ s.end) (is : Ok (count, rest.rest.now) ≡ byte_of (Count 1 192) s.end s.rest.now) where
+  read : (fault : List Fault) (left : Unread) → (left.end ≡ rest.end) × (Ok (map (λ (f : Fault). f) (take count fault), left.rest.now) ≡ in_a_row (λ before. fault_of inputs lines gates) count rest.end rest.rest.now)
+      → (left.end ≡ s.end) × (Ok (take count fault, left.rest.now) ≡ faults_of inputs lines gates s.end s.rest.now)
+  read fault left h = (h.0 ∙ end, rw (sym is) (rw (map-id (take count fault), end) at h.1))
 
-pub loop-n-init : goal.loop-n-init
-loop-n-init c = (
-  refl,
-  c.in_ok-count.ensures.inside,
-  counted c.args.netlist.now.inputs (c.args.netlist.now.inputs + c.args.netlist.now.gates) c.args.netlist.now.gate c.args.end c.in_ok-count.count c.args.s.now c.in_ok-count.rest.now c.in_ok-count.ensures.is,
-)
+  refused : (e : FileFault) → Err e ≡ in_a_row (λ before. fault_of inputs lines gates) count rest.end rest.rest.now → Err e ≡ faults_of inputs lines gates s.end s.rest.now
+  refused e h = rw (sym is) (rw end at h)
 
-pub returns-in_err-named : goal.returns-in_err-named
-returns-in_err-named c =
-    let p = err_from_is_err_and c.from_residual-in_err-named.result c.from_residual-in_err-named.ensures.1 in
+pub returns-in_err-rest-clause-is : goal.returns-in_err-rest-clause-is
+returns-in_err-rest-clause-is c =
+    let p = err_from_is_err_and c.from_residual-in_err-rest.result c.from_residual-in_err-rest.ensures.1 in
+    let n = c.args.netlist.now in
     rw (p.1, p.2)
-    (record {
-      is =
-          row_refused (λ before. fault_of c.args.netlist.now.inputs (c.args.netlist.now.inputs + c.args.netlist.now.gates) c.args.netlist.now.gate c.args.end) _ (take c.loop-n.n c.loop-n.fault) c.loop-n.rest.now c.in_err-named.field-0.0 _ (omega arith)
-          c.in_err-named.ensures.is c.loop-n.invariant.2;
-      inside = tt;
-      few = tt;
-    })
+    (refused n.inputs (n.inputs + n.gates) n.gate c.args.s c.in_ok-count.rest c.in_ok-count.count c.in_ok-count.ensures.is.0 c.in_ok-count.ensures.is.1 c.in_err-rest.field-0.0
+    (place_refused (λ (f : Fault). f) (λ before. fault_of n.inputs (n.inputs + n.gates) n.gate) c.in_ok-count.count _ c.in_ok-count.rest (length-take-le c.in_ok-count.count _ c.in_ok-count.ensures.bounded.1) c.in_err-rest.field-0.0
+    (c.in_err-rest.ensures.by (λ (f : Fault). f) (λ before. fault_of n.inputs (n.inputs + n.gates) n.gate) (λ before s r l call. search rules))))
 
-pub loop-n-preserved : goal.loop-n-preserved
-loop-n-preserved c =
-    let lt : c.loop-n.n < length c.loop-n.fault = omega (arith, c.loop-n.invariant.0, c.in_ok-count.ensures.bounded) in
-    let e : c.in_ok-count.count - c.loop-n.n ≡ suc (c.in_ok-count.count - (c.loop-n.n + 1)) = omega arith in (
-      length-set c.loop-n.fault c.loop-n.n _ ∙ c.loop-n.invariant.0,
-      c.in_ok-named.ensures.inside,
-      row_more (λ before. fault_of c.args.netlist.now.inputs (c.args.netlist.now.inputs + c.args.netlist.now.gates) c.args.netlist.now.gate c.args.end) _ _ (take c.loop-n.n c.loop-n.fault) _ c.loop-n.rest.now c.in_ok-named.named c.in_ok-named.after.now _ e
-          (take_more_set c.loop-n.fault c.loop-n.n c.in_ok-named.named lt)
-          c.in_ok-named.ensures.is
-          c.loop-n.invariant.2,
-    )
+pub returns-clause-is : goal.returns-clause-is
+returns-clause-is c =
+    let n = c.args.netlist.now in
+    read n.inputs (n.inputs + n.gates) n.gate c.args.s c.in_ok-count.rest c.in_ok-count.count c.in_ok-count.ensures.is.0 c.in_ok-count.ensures.is.1 _ c.in_ok-rest.rest
+    (first_places (λ (f : Fault). f) (λ before. fault_of n.inputs (n.inputs + n.gates) n.gate) c.in_ok-count.count _ c.in_ok-count.rest (length-take-le c.in_ok-count.count _ c.in_ok-count.ensures.bounded.1) c.fill.new.table _ c.in_ok-rest.rest c.fill.auto.table
+    (c.in_ok-rest.ensures.by (λ (f : Fault). f) (λ before. fault_of n.inputs (n.inputs + n.gates) n.gate) (λ before s r l call. search rules)))

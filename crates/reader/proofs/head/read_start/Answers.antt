@@ -20,10 +20,10 @@ some : (lines end : ℕ) (s rest bytes : List ℕ) (start : List Bool) (given : 
 some lines end s rest bytes start given h e u = rw (h, sym e) (ap (λ (x : List Bool). Ok (x, rest)) (u ∙ cut bytes ((lines + 7) / 8) lines (omega arith)))
 
 pub returns-then-not-given : goal.returns-then-not-given
-returns-then-not-given c = record { is = none c.args.lines c.args.end c.args.s.now c.args.given c.requires.few c.if-not-given.true; inside = c.requires.within }
+returns-then-not-given c = (refl, none c.args.lines c.args.s.end c.args.s.rest.now c.args.given c.requires c.if-not-given.true)
 
 pub returns : goal.returns
-returns c = record {
-  is = some c.args.lines c.args.end c.args.s.now c.in_ok-bytes.rest.now c.in_ok-bytes.bytes _ c.args.given c.if-not-given.false c.in_ok-bytes.ensures.is c.unpack.ensures;
-  inside = c.in_ok-bytes.ensures.inside;
-}
+returns c = (
+  c.in_ok-bytes.ensures.0,
+  some c.args.lines c.args.s.end c.args.s.rest.now c.in_ok-bytes.rest.rest.now c.in_ok-bytes.bytes _ c.args.given c.if-not-given.false c.in_ok-bytes.ensures.1 (c.unpack.ensures c.args.lines c.requires),
+)

@@ -1,5 +1,5 @@
 -- What the code answers where it reads: a value with what is then left of the file, or why the file is refused.
-use Rattle.std.specs.Prelude.{◌≡◌, ℕ, ◌<◌, List, [], map, length, Ok, Err, Result}
+use Rattle.std.specs.Prelude.{◌≡◌, ℕ, ◌<◌, List, [], map, length, take, drop, Ok, Err, Result}
 use Rattle.std.specs.Borrow.{Bor}
 use Rattle.std.proofs.Math.Nat.{le_refl}
 use Rattle.refusal.specs.declared.FileFault.{FileFault}
@@ -31,3 +31,7 @@ Each {A} Call n view step = (before : Bor (List A)) (s : Unread) (r : Result (A 
 -- what is told of each call is told of all of them in a row
 pub record Told {A : Type 0} (Call : Bor (List A) → Unread → Result (A × Unread) FileFault → Type 0) (n : ℕ) (s : Unread) (answer : Result (List A × Unread) FileFault) : Type 0 where
   pub by : (view : A → A) (step : List A → ℕ → List ℕ → Reading A) → Each Call n view step → ReadAs (map view) (in_a_row step n) s answer
+
+-- a table that was filled up to a thing that was refused: the things before it, and the other places as they were
+abbrev pub BrokenOff : {A : Type 0} → (Bor (List A) → Unread → Result (A × Unread) FileFault → Type 0) → List A → Unread → List A → Type 0
+BrokenOff Call old s new = (at : ℕ) × (at < length old) × (drop at new ≡ drop at old) × ((left : Unread) × Told Call at s (Ok (take at new, left)))

@@ -13,9 +13,9 @@ pub struct Unread<'a> {
 }
 
 impl<'a> Unread<'a> {
-    ghost use Rattle.std.specs.Prelude.{◌≡◌, ℕ, ◌-◌, ◌<◌, ◌==◌, IfOk};
+    ghost use Rattle.std.specs.Prelude.{◌≡◌, ℕ, ◌-◌, ◌<◌, ◌==◌, IfOk, OnErr};
     ghost use Rattle.field.specs.Fields.{Bounds, byte_of};
-    ghost use Rattle.field.specs.Answers.{ReadAs, Told, filled};
+    ghost use Rattle.field.specs.Answers.{ReadAs, Told, BrokenOff, filled};
 
     /// A file, all of it still to be read.
     pub fn new(file: &'a [u8]) -> Unread<'a>
@@ -59,7 +59,7 @@ impl<'a> Unread<'a> {
     }
 
     /// Reads things one after another until the table is full, each in the light of those before it.
-    /// Where one is refused, so is the whole, and what the table then holds says nothing.
+    /// Where one is refused, so is the whole: the table then has the things before that one, and keeps its other places.
     #[tactic(auto, using(crate::proofs::Filling::filled_none, crate::proofs::Filling::filled_whole))]
     pub fn fill<T: Copy, F: Fn(&[T], Unread<'a>) -> Result<(T, Unread<'a>), FileFault>>(
         self,
@@ -67,7 +67,8 @@ impl<'a> Unread<'a> {
         read: F,
     ) -> Result<Unread<'a>, FileFault>
         requires { (before : _) (s : _) → length before.now < length table.old → F.pre read before s }
-        ensures { Told (F.post read) (length table.old) self.entry (filled result table.new) }
+        ensures told { Told (F.post read) (length table.old) self.entry (filled result table.new) }
+        ensures refused { OnErr result (BrokenOff (F.post read) table.old self.entry table.new) }
     {
         let mut left = self;
         // Kept, no plainer: each thing is read in the light of those before it, so where it goes says which these are

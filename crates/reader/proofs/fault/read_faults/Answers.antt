@@ -28,11 +28,11 @@ returns-in_err-rest-clause-is c =
     rw (p.1, p.2)
     (refused n.inputs (n.inputs + n.gates) n.gate c.args.s c.in_ok-count.rest c.in_ok-count.count c.in_ok-count.ensures.is.0 c.in_ok-count.ensures.is.1 c.in_err-rest.field-0.0
     (place_refused (λ (f : Fault). f) (λ before. fault_of n.inputs (n.inputs + n.gates) n.gate) c.in_ok-count.count _ c.in_ok-count.rest (length-take-le c.in_ok-count.count _ c.in_ok-count.ensures.bounded.1) c.in_err-rest.field-0.0
-    (c.in_err-rest.ensures.by (λ (f : Fault). f) (λ before. fault_of n.inputs (n.inputs + n.gates) n.gate) (λ before s r l call. search rules))))
+    (c.in_err-rest.ensures.told.by (λ (f : Fault). f) (λ before. fault_of n.inputs (n.inputs + n.gates) n.gate) (λ before s r l call. search rules))))
 
 pub returns-clause-is : goal.returns-clause-is
 returns-clause-is c =
     let n = c.args.netlist.now in
     read n.inputs (n.inputs + n.gates) n.gate c.args.s c.in_ok-count.rest c.in_ok-count.count c.in_ok-count.ensures.is.0 c.in_ok-count.ensures.is.1 _ c.in_ok-rest.rest
     (first_places (λ (f : Fault). f) (λ before. fault_of n.inputs (n.inputs + n.gates) n.gate) c.in_ok-count.count _ c.in_ok-count.rest (length-take-le c.in_ok-count.count _ c.in_ok-count.ensures.bounded.1) c.fill.new.table _ c.in_ok-rest.rest c.fill.auto.table
-    (c.in_ok-rest.ensures.by (λ (f : Fault). f) (λ before. fault_of n.inputs (n.inputs + n.gates) n.gate) (λ before s r l call. search rules)))
+    (c.in_ok-rest.ensures.told.by (λ (f : Fault). f) (λ before. fault_of n.inputs (n.inputs + n.gates) n.gate) (λ before s r l call. search rules)))

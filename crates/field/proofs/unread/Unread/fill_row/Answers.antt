@@ -18,4 +18,4 @@ plain row n s (Ok rest) bytes h = (h.0, rw map-id at h.1)
 plain row n s (Err e) bytes h = h
 
 pub returns : goal.returns
-returns c = plain c.args.row _ c.args.self c.fill.result c.fill.new.table (c.fill.ensures.by (λ (b : ℕ). b) (step c.args.row) (λ before s r l call. rw map-id (search rules)))
+returns c = plain c.args.row _ c.args.self c.fill.result c.fill.new.table (c.fill.ensures.told.by (λ (b : ℕ). b) (step c.args.row) (λ before s r l call. rw map-id (search rules)))

@@ -3,10 +3,10 @@ use Rattle.std.proofs.lemmas.Bool.Decides.{nat_tests}
 use Rattle.site_index.specs.Sites.{fault_of}
 use Rattle.site_index.proofs.fault_of.Goals as goal
 
-pub returns-then-n-list : goal.returns-then-n-list
+pub returns-in_err-fault : goal.returns-in_err-fault
 unfolding fault_of
-returns-then-n-list c = grind (arith, nat_tests)
+returns-in_err-fault c = grind (arith, nat_tests)
 
-pub returns-else-n-lt192 : goal.returns-else-n-lt192
+pub returns : goal.returns
 unfolding fault_of
-returns-else-n-lt192 c = grind (arith, nat_tests)
+returns c = grind (arith, nat_tests)

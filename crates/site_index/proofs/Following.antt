@@ -5,7 +5,7 @@ use Rattle.std.specs.List.{slice_get}
 use Rattle.circuit.specs.declared.site.Site.{Site}
 use Rattle.circuit.specs.declared.site.Fault.{Fault}
 use Rattle.circuit.specs.declared.site.FaultList.{FaultList}
-use Rattle.site_index.specs.Sites.{fault_of, sits_at, on_table, place, place_of, numbers_from, Nexts}
+use Rattle.site_index.specs.Sites.{fault_of, sits_at, on_table, place, place_of, placed_number, numbers_from, Nexts}
 use Rattle.site_index.specs.Numbers.{with_fault, numbers_with}
 use Rattle.site_index.proofs.Leading.{sits_below, numbers_at, from_first, no_first}
 use Rattle.site_index.proofs.Tables.{one_site, same_self}
@@ -34,10 +34,20 @@ module _ (list : FaultList) where
       let f = from_first list s from n (sym e) in
       with_sits s n (fault_of list n) f.1 ∙ sym f.0
 
+  with_some : (s : Site) (b : Bool) → numbers_with list (cond b (slice_get (numbers_from list s 0) 0) None) ≡ cond b (numbers_from list s 0) []
+  with_some s true = with_first s 0 _ refl
+  with_some s false = refl
+
   -- a site of the table has its numbers, and no other site has any
-  pub with_site : (s : Site) (b : Bool) (r : Option ℕ) → r ≡ cond b (slice_get (numbers_from list s 0) 0) None → numbers_with list r ≡ cond b (numbers_from list s 0) []
-  with_site s true r e = with_first s 0 r e
-  with_site s false r e = ap (numbers_with list) e
+  pub with_site : (s : Site) → numbers_with list (cond (on_table s) (slice_get (numbers_from list s 0) 0) None) ≡ cond (on_table s) (numbers_from list s 0) []
+  with_site s = with_some s (on_table s)
+
+  placed_by : (s : Site) (from : ℕ) (b : Bool) (r : Option ℕ) → (b ≡ true → on_table s ≡ true) → cond b (slice_get (numbers_from list s from) 0) None ≡ r → placed_number list r ≡ true
+  placed_by s from b None on e = refl
+  placed_by s from b (Some n) on e = let w = chosen b _ n e in placed s (fault_of list n) (on w.0) (from_first list s from n w.1).1
+
+  pub first_placed : (s : Site) → placed_number list (cond (on_table s) (slice_get (numbers_from list s 0) 0) None) ≡ true
+  first_placed s = placed_by s 0 (on_table s) _ (λ e. e) refl
 
   on_table_by : (b : Bool) (p : ℕ) → is_some (cond b (Some p) None) ≡ true → b ≡ true
   on_table_by true p e = refl
@@ -56,17 +66,16 @@ module _ (list : FaultList) where
     pub one_number : is_some (place_of (fault_of list n)) ≡ true → numbers_with list (Some n) ≡ n ∷ numbers_with list (get_or next n None)
     one_number h = one_of (fault_of list n) refl h
 
-    next_of : (f : Option Fault) (m : ℕ) → fault_of list n ≡ f → is_some (place_of f) ≡ true → get_or next n None ≡ Some m → is_some (place_of (fault_of list m)) ≡ true
-    next_of None m e h q = absurd (true≢false (sym h))
-    next_of (Some f) m e h q =
+    next_of : (f : Option Fault) → fault_of list n ≡ f → is_some (place_of f) ≡ true → placed_number list (get_or next n None) ≡ true
+    next_of None e h = absurd (true≢false (sym h))
+    next_of (Some f) e h =
         let sits : sits_at f.site (fault_of list n) ≡ true = ap (sits_at f.site) e ∙ same_self f.site in
         let on = on_table_by (on_table f.site) (place f.site) h in
-        let first = from_first list f.site (n + 1) m (sym (nexts n f.site (omega arith, on, sits)) ∙ q) in
-        placed f.site (fault_of list m) on first.1
+        placed_by f.site (n + 1) true _ (λ _. on) (sym (nexts n f.site (omega arith, on, sits)))
 
-    -- the next number has a fault with a place
-    pub next_placed : (m : ℕ) → is_some (place_of (fault_of list n)) ≡ true → get_or next n None ≡ Some m → is_some (place_of (fault_of list m)) ≡ true
-    next_placed m h q = next_of (fault_of list n) m refl h q
+    -- so has the next number
+    pub next_placed : is_some (place_of (fault_of list n)) ≡ true → placed_number list (get_or next n None) ≡ true
+    next_placed h = next_of (fault_of list n) refl h
 
   below_by : (f : Option Fault) (n : ℕ) → fault_of list n ≡ f → is_some (place_of f) ≡ true → n < 192
   below_by None n e h = absurd (true≢false (sym h))

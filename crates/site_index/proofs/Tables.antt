@@ -73,15 +73,23 @@ placed_within (Some f) p e =
     subst (λ (q : ℕ). q < 432) w.1 (place_within f.site w.0)
 
 -- both tables at once: their lengths, and that they are right from a number on
-pub record Right (list : FaultList) (from : ℕ) (first next : List (Option ℕ)) : Type 0 where
+pub record RightTables (list : FaultList) (from : ℕ) (first next : List (Option ℕ)) : Type 0 where
   pub wide : length first ≡ 432
   pub long : length next ≡ 192
   pub firsts : Firsts list from first
   pub nexts : Nexts list from next
 
+-- the same as one word, which proofs pass on whole
+unfoldable pub Right : FaultList → ℕ → List (Option ℕ) → List (Option ℕ) → Type 0
+Right list from first next = RightTables list from first next
+
+pub tables : (list : FaultList) (from : ℕ) (first next : List (Option ℕ)) → Right list from first next → RightTables list from first next
+unfolding Right
+tables list from first next r = r
+
 -- with nothing in them they are right past the last number
 pub right_none : (list : FaultList) → Right list 192 (replicate 432 None) (replicate 192 None)
-unfolding numbers_from
+unfolding numbers_from Right
 right_none list = record {
   wide = refl;
   long = refl;
@@ -97,8 +105,8 @@ module _ (list : FaultList) (above : ℕ) (first next : List (Option ℕ)) (some
   lt : n < 192
   lt = omega arith
 
-  right : Right list (n + 1) first next
-  right = let up : above ≡ (above - 1) + 1 = omega arith in subst (λ (i : ℕ). Right list i first next) up was
+  right : RightTables list (n + 1) first next
+  right = let up : above ≡ (above - 1) + 1 = omega arith in subst (λ (i : ℕ). RightTables list i first next) up (tables list above first next was)
 
   -- the first of the numbers with this one, and without it
   first_at : (s : Site) (b : Bool) → sits_at s (fault_of list n) ≡ b → slice_get (numbers_from list s n) 0 ≡ cond b (Some n) (slice_get (numbers_from list s (n + 1)) 0)
@@ -106,6 +114,7 @@ module _ (list : FaultList) (above : ℕ) (first next : List (Option ℕ)) (some
   first_at s false e = ap (λ (xs : List ℕ). slice_get xs 0) (numbers_at list s n false lt e)
 
   pub right_more : (p : ℕ) → place_of (fault_of list n) ≡ Some p → Right list n (set first p (Some n)) (set next n (get_or first p None))
+  unfolding Right
   right_more p e =
       let tells = place_tells (fault_of list n) p e in
       let room : p < length first = omega (arith, placed_within (fault_of list n) p e, right.wide) in
@@ -130,6 +139,7 @@ module _ (list : FaultList) (above : ℕ) (first next : List (Option ℕ)) (some
       }
 
   pub right_still : place_of (fault_of list n) ≡ None → Right list n first next
+  unfolding Right
   right_still e =
       let tells = no_place_tells (fault_of list n) e in
       record {

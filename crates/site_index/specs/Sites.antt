@@ -1,5 +1,5 @@
 -- The faults of a list by number and by site.
-use Rattle.std.specs.Prelude.{◌≡◌, ℕ, ◌+◌, ◌-◌, ◌*◌, ◌≤◌, Bool, true, false, cond, ◌&&◌, List, Some, None, Option, nat_lt, slice_index_or}
+use Rattle.std.specs.Prelude.{◌≡◌, ℕ, ◌+◌, ◌-◌, ◌*◌, ◌≤◌, Bool, true, false, cond, ◌&&◌, List, Some, None, Option, is_some, nat_lt, slice_index_or}
 use Rattle.std.specs.List.{filter, range_with_len, slice_get}
 use Rattle.circuit.specs.declared.site.Site.{Site}
 use Rattle.circuit.specs.declared.site.Site.TheVariants.{Stem, Pin}
@@ -35,6 +35,11 @@ place_of (Some f) = cond (on_table f.site) (Some (place f.site)) None
 -- the numbers from one on whose fault sits at the site, in rising order: there are no faults past number 191
 unfoldable pub numbers_from : FaultList → Site → ℕ → List ℕ
 numbers_from list s from = filter (λ n. sits_at s (fault_of list n)) (range_with_len from (192 - from))
+
+-- whether a number, if there is one, has a fault with a place
+abbrev pub placed_number : FaultList → Option ℕ → Bool
+placed_number list None = true
+placed_number list (Some n) = is_some (place_of (fault_of list n))
 
 -- the tables are right from a number on: they hold the first of these numbers, if there is one
 abbrev pub Firsts : FaultList → ℕ → List (Option ℕ) → Type 0

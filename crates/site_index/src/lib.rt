@@ -22,6 +22,7 @@ pub struct SiteIndex {
 }
 
 // Fault number n, if the list has one.
+#[tactic(auto, using(std::proofs::lemmas::Bool::Decides::nat_tests), unfolding(crate::specs::Sites::fault_of))]
 fn fault_of(list: &FaultList, n: u8) -> Option<Fault>
     ensures { result ≡ fault_of list.now n }
 {
@@ -55,6 +56,7 @@ impl SiteIndex {
     ghost use Rattle.std.specs.List.{slice_get};
 
     /// The index of a list. A fault on a site that no circuit has is left out of the tables.
+    #[tactic(auto, using(crate::proofs::Tables::right_more, crate::proofs::Tables::right_still))]
     pub fn of(list: &FaultList) -> SiteIndex
         ensures { result.list ≡ list.now }
     {
@@ -89,6 +91,7 @@ impl SiteIndex {
     }
 
     /// The numbers whose fault sits at the site, in rising order; none for a site that no circuit has.
+    #[tactic(auto, using(crate::proofs::Following::first_placed, crate::proofs::Following::with_site))]
     pub fn numbers_at(&self, site: Site) -> NumbersAt<'_>
         ensures { numbers_left result ≡ cond (on_table site) (numbers_from self.now.list site 0) [] }
     {

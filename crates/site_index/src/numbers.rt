@@ -1,6 +1,6 @@
 // The numbers of the faults at one site, one after another.
-ghost use Rattle.std.specs.Prelude.{◌≡◌, ℕ, true, Some, is_some};
-ghost use Rattle.site_index.specs.Sites.{fault_of, place_of};
+ghost use Rattle.std.specs.Prelude.{◌≡◌, true};
+ghost use Rattle.site_index.specs.Sites.{placed_number};
 
 use crate::SiteIndex;
 
@@ -9,7 +9,7 @@ use crate::SiteIndex;
 pub struct NumbersAt<'a> {
     pub(crate) index: &'a SiteIndex,
     pub(crate) next: Option<u8>,
-    ghost there: { (n : ℕ) → next ≡ Some n → is_some (place_of (fault_of index.now.list n)) ≡ true },
+    ghost there: { placed_number index.now.list next ≡ true },
 }
 
 impl Iterator for NumbersAt<'_> {
@@ -22,6 +22,7 @@ impl Iterator for NumbersAt<'_> {
 
     ghost remaining = { item_count numbers_left };
 
+    #[tactic(auto, using(crate::proofs::Following::one_number, crate::proofs::Following::next_placed))]
     fn next(&mut self) -> Option<u8> {
         let n = self.next?;
         self.next = self.index.next[n as usize];

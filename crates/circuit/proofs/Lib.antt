@@ -1,4 +1,5 @@
 pub mod Filled
+pub mod Parts
 pub mod Kept
 pub mod Resting
 pub mod Trimmed

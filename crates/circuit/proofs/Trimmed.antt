@@ -78,7 +78,7 @@ lawful_from_trimmed n law =
 
 -- What a gate drives depends on its pins only, and on the masks that it needs.
 module _ {A : Type 0} (L : Logic A) where
-  literal_same : (pin pin' : ℕ → A) (inverted j : ℕ) → pin j ≡ pin' j → literal L pin inverted j ≡ literal L pin' inverted j
+  pub literal_same : (pin pin' : ℕ → A) (inverted j : ℕ) → pin j ≡ pin' j → literal L pin inverted j ≡ literal L pin' inverted j
   unfolding literal
   literal_same pin pin' inverted j e = ap (λ (x : A). cond (bit inverted j) (L.invert x) x) e
 

@@ -1,5 +1,5 @@
 -- What a gate computes, over any logic: its pins' values and the value of its own line give the value that it drives.
-use Rattle.std.specs.Prelude.{ℕ, zero, suc, ◌-◌, ◌/◌, ◌%◌, ◌^◌, Bool, true, false, cond, ◌==◌, slice_index}
+use Rattle.std.specs.Prelude.{ℕ, zero, suc, ◌-◌, ◌/◌, ◌%◌, ◌^◌, Bool, true, false, cond, List, ◌==◌, slice_index, slice_index_or}
 pub use Rattle.ternary.specs.Logics.{Logic, two_valued}
 use Rattle.circuit.specs.declared.gate.Sum.{Sum}
 use Rattle.circuit.specs.declared.gate.Function.{Function}
@@ -45,3 +45,7 @@ function_of L pin own pins (CElement inverted) = L.either (all L pin inverted pi
 -- the value that a gate drives, from the values of its pins and of its own line
 unfoldable pub driven : {A : Type 0} → Logic A → Gate → (ℕ → A) → A → A
 driven L g pin own = function_of L pin own g.pins g.function
+
+-- what the signal at place j of a row means in circuit n; past the row's end, what `end` means
+abbrev pub meant : {T A : Type 0} → (T → ℕ → A) → T → List T → ℕ → ℕ → A
+meant meaning end row n j = meaning (slice_index_or row j end) n

@@ -1,83 +1,91 @@
-// The function of a gate, on truth values.
-ghost use Rattle.std.specs.Prelude.{◌≡◌, ℕ, ◌<◌, ◌≤◌, slice_index};
-ghost use Rattle.circuit.specs.Gates.{two_valued, bit, literal, product, sum, function_of};
-ghost use Rattle.circuit.specs.Netlists.{pin_at, pins_of, products, driven_by};
+// The function of a gate, on the signals that its pins see.
+ghost use Rattle.std.specs.Prelude.{◌≡◌, ℕ, length, slice_index};
+ghost use Rattle.circuit.specs.Gates.{bit, literal, product, sum, function_of, meant};
 
-use crate::gate::{Function, Gate, Sum};
+use crate::gate::{Function, Sum};
+use ternary::signal::Signal;
 
-/// Whether a mask has bit j.
-/// Public only for the job reader, whose maps and start bytes have eight bits.
-pub fn has(mask: u8, j: u8) -> bool
-    requires { j < 8 }
+// Whether a mask has bit j; past its eight bits it has none.
+fn bit_at(mask: u8, j: usize) -> bool
     ensures { result ≡ bit mask j }
 {
-    (mask >> j) % 2 == 1
+    j < 8 && (mask >> j) % 2 == 1
 }
 
-// What pin j reads, inverted where the mask has bit j.
-fn literal_of(gate: &Gate, values: &[bool; 48], inverted: u8, j: u8) -> bool
-    requires within { j < 8 }
-    requires named { pin_at gate.now j < 48 }
-    ensures { result ≡ literal two_valued (pins_of gate.now values.now) inverted j }
+/// Whether a mask has bit j.
+pub fn has(mask: u8, j: u8) -> bool
+    ensures { result ≡ bit mask j }
 {
-    let read = values[gate.pin[j as usize] as usize];
-    if has(inverted, j) { !read } else { read }
+    bit_at(mask, j as usize)
 }
 
-// The AND of the pins that product p uses.
-fn product_of(gate: &Gate, values: &[bool; 48], terms: &Sum, p: usize) -> bool
-    requires within { (gate.now.pins ≤ 8) × (p < 8) }
-    requires named { (j : ℕ) → j < gate.now.pins → pin_at gate.now j < 48 }
-    ensures { result ≡ product two_valued (pins_of gate.now values.now) (slice_index terms.now.used p) (slice_index terms.now.inverted p) gate.now.pins }
+// The mask of product p; past the row's end it has no bit.
+fn mask_at(masks: &[u8; 8], p: u8) -> u8
+    ensures { result ≡ slice_index masks.now p }
 {
-    let used = terms.used[p];
-    let inverted = terms.inverted[p];
-    let mut every = true;
-    for j in 0..gate.pins {
-        if has(used, j) {
-            every &= literal_of(gate, values, inverted, j);
+    masks.get(p as usize).copied().unwrap_or(0)
+}
+
+// Pin j, inverted where the mask has bit j.
+fn literal_of<T: Signal>(pin: &T, inverted: u8, j: usize) -> T
+    ensures { (n : ℕ) → T.meaning result n ≡ literal T.logic (λ i. T.meaning pin.now n) inverted j }
+{
+    if bit_at(inverted, j) {
+        pin.inverted()
+    } else {
+        *pin
+    }
+}
+
+// The AND of the pins that a product uses; `own` only lends its shape.
+fn product_of<T: Signal>(pins: &[T], own: &T, used: u8, inverted: u8) -> T
+    ensures { (n : ℕ) → T.meaning result n ≡ product T.logic (meant T.meaning own.now pins.now n) used inverted (length pins.now) }
+{
+    let mut every = own.constant(true);
+    for (j, pin) in pins.iter().enumerate() {
+        if bit_at(used, j) {
+            every.and_in(&literal_of(pin, inverted, j));
         }
     }
     every
 }
 
 // The OR of the products.
-fn sum_of(gate: &Gate, values: &[bool; 48], terms: &Sum) -> bool
-    requires within { (gate.now.pins ≤ 8) × (terms.now.products ≤ 8) }
-    requires named { (j : ℕ) → j < gate.now.pins → pin_at gate.now j < 48 }
-    ensures { result ≡ sum two_valued (pins_of gate.now values.now) gate.now.pins terms.now terms.now.products }
+fn sum_of<T: Signal>(pins: &[T], own: &T, terms: &Sum) -> T
+    ensures { (n : ℕ) → T.meaning result n ≡ sum T.logic (meant T.meaning own.now pins.now n) (length pins.now) terms.now terms.now.products }
 {
-    let mut any = false;
+    let mut any = own.constant(false);
     for p in 0..terms.products {
-        any |= product_of(gate, values, terms, p as usize);
+        let used = mask_at(&terms.used, p);
+        let inverted = mask_at(&terms.inverted, p);
+        any.or_in(&product_of(pins, own, used, inverted));
     }
     any
 }
 
 // The AND of all pins, or one of them with the gate's own line.
-fn c_element_of(gate: &Gate, values: &[bool; 48], inverted: u8, own: bool) -> bool
-    requires within { gate.now.pins ≤ 8 }
-    requires named { (j : ℕ) → j < gate.now.pins → pin_at gate.now j < 48 }
-    ensures { result ≡ function_of two_valued (pins_of gate.now values.now) own gate.now.pins (Function.CElement inverted) }
+fn c_element_of<T: Signal>(pins: &[T], own: &T, inverted: u8) -> T
+    ensures { (n : ℕ) → T.meaning result n ≡ function_of T.logic (meant T.meaning own.now pins.now n) (T.meaning own.now n) (length pins.now) (Function.CElement inverted) }
 {
-    let mut every = true;
-    let mut held = false;
-    for j in 0..gate.pins {
-        let pin = literal_of(gate, values, inverted, j);
-        every &= pin;
-        held |= pin & own;
+    let mut every = own.constant(true);
+    let mut held = own.constant(false);
+    for (j, pin) in pins.iter().enumerate() {
+        let part = literal_of(pin, inverted, j);
+        every.and_in(&part);
+        let mut kept = part;
+        kept.and_in(own);
+        held.or_in(&kept);
     }
-    every | held
+    every.or_in(&held);
+    every
 }
 
-/// The value that a gate drives when the lines have these values and its own line has `own`.
-pub(crate) fn drives(gate: &Gate, values: &[bool; 48], own: bool) -> bool
-    requires within { (gate.now.pins ≤ 8) × (products gate.now.function ≤ 8) }
-    requires named { (j : ℕ) → j < gate.now.pins → pin_at gate.now j < 48 }
-    ensures { result ≡ driven_by gate.now values.now own }
+/// What a gate with this function drives when its pins see these signals and its own line has `own`.
+pub fn drives<T: Signal>(function: &Function, pins: &[T], own: &T) -> T
+    ensures { (n : ℕ) → T.meaning result n ≡ function_of T.logic (meant T.meaning own.now pins.now n) (T.meaning own.now n) (length pins.now) function.now }
 {
-    match &gate.function {
-        Function::Complex(terms) => sum_of(gate, values, terms),
-        Function::CElement { inverted } => c_element_of(gate, values, *inverted, own),
+    match function {
+        Function::Complex(terms) => sum_of(pins, own, terms),
+        Function::CElement { inverted } => c_element_of(pins, own, *inverted),
     }
 }

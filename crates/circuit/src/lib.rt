@@ -3,8 +3,8 @@
 
 pub mod chip;
 pub mod circuit;
+pub mod design;
 pub mod drive;
-pub mod drive_values;
 pub mod gate;
 pub mod netlist;
 pub mod site;

@@ -1,0 +1,69 @@
+// A netlist that is lawful but for its start, and whether its start is at rest.
+ghost use Rattle.std.specs.Prelude.{◌≡◌, ℕ, ◌+◌, ◌<◌, false, slice_index_or};
+ghost use Rattle.circuit.specs.Netlists.{gate_at, pins_of, driven_by, restless, Lawful};
+
+use crate::drive::drives;
+use crate::gate::Gate;
+use crate::netlist::Netlist;
+
+/// A circuit but for its start: counts in range, lawful gates, and outputs that are gate lines and rise.
+#[derive(Clone, Copy)]
+pub struct Design {
+    netlist: Netlist,
+    ghost lawful: { Lawful netlist },
+}
+
+// What the pins of a gate see at the start.
+fn pins_at_start(gate: &Gate, start: &[bool; 48]) -> [bool; 8]
+    ensures { (j : ℕ) → j < 8 → slice_index_or result j false ≡ pins_of gate.now start.now j }
+{
+    let mut pins = [false; 8];
+    for (j, line) in gate.pin.iter().enumerate() {
+        pins[j] = start.get(*line as usize).copied().unwrap_or(false);
+    }
+    pins
+}
+
+impl Design {
+    /// The design of a lawful netlist.
+    /// Public only for the job reader, which has checked what is required here.
+    pub fn of(netlist: Netlist) -> Design
+        requires { Lawful netlist }
+        ensures { result.netlist ≡ netlist }
+    {
+        Design { netlist }
+    }
+
+    /// The netlist.
+    pub fn netlist(&self) -> &Netlist
+        ensures { result.now ≡ self.now.netlist }
+    {
+        &self.netlist
+    }
+
+    // What gate k drives at the start.
+    fn drives_at_start(&self, k: u8) -> bool
+        requires { k < self.now.netlist.gates }
+        ensures { result ≡ driven_by (gate_at self.now.netlist.gate k) self.now.netlist.start (slice_index_or self.now.netlist.start (self.now.netlist.inputs + k) false) }
+    {
+        let netlist = &self.netlist;
+        let gate = &netlist.gate[k as usize];
+        let pins = pins_at_start(gate, &netlist.start);
+        let own = netlist.start[(netlist.inputs + k) as usize];
+        drives(&gate.function, &pins[..gate.pins as usize], &own)
+    }
+
+    // The lowest line that is not at rest at the start.
+    pub(crate) fn first_restless(&self) -> Option<u8>
+        ensures { result ≡ restless self.now.netlist }
+    {
+        let netlist = &self.netlist;
+        for k in 0..netlist.gates {
+            let line = netlist.inputs + k;
+            if self.drives_at_start(k) != netlist.start[line as usize] {
+                return Some(line);
+            }
+        }
+        None
+    }
+}

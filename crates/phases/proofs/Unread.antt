@@ -64,7 +64,7 @@ module _ (c : Circuit) (fault : Option Fault) (changed : ℕ → Bool) (A B : Li
       let g = gate_at n.gate k in
       let unread = pins_unread changed g _ g.pins e in
       ap (seen of ((chip c.netlist fault).stuck.gate k))
-      (driven_in_keeps (equal_kept three_valued) c.netlist fault (line c.netlist B) (line c.netlist A) k (λ j l. same (pin_at (gate_at c.netlist.gate k) j) (c.named k j lt l) (unread.1 j l)) (B.gate k) (B.gate k) refl
+      (driven_in_keeps (equal_kept three_valued) c.netlist fault (line c.netlist B) (line c.netlist A) k (λ j l. same (pin_at (gate_at c.netlist.gate k) j) ((c.lawful.gates_lawful k lt).named j l) (unread.1 j l)) (B.gate k) (B.gate k) refl
       ∙ driven_own three_valued (gate_at c.netlist.gate k) _ (B.gate k) (A.gate k) (changed (c.netlist.inputs + k)) unread.0 own)
 
   -- after a pass

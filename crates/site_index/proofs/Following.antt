@@ -6,8 +6,9 @@ use Rattle.circuit.specs.declared.site.Site.{Site}
 use Rattle.circuit.specs.declared.site.Fault.{Fault}
 use Rattle.circuit.specs.declared.site.FaultList.{FaultList}
 use Rattle.site_index.specs.Sites.{fault_of, sits_at, on_table, place, place_of, placed_number, numbers_from, Nexts}
-use Rattle.site_index.specs.Numbers.{with_fault, numbers_with}
-use Rattle.site_index.proofs.Leading.{sits_below, numbers_at, from_first, no_first}
+use Rattle.site_index.specs.declared.numbers.NumbersAt.{NumbersAt}
+use Rattle.site_index.specs.Numbers.{with_fault, numbers_with, numbers_left}
+use Rattle.site_index.proofs.Leading.{sits_below, numbers_at, first_is, from_first, no_first}
 use Rattle.site_index.proofs.Tables.{one_site, same_self}
 
 -- what is chosen, where it is something
@@ -84,3 +85,15 @@ module _ (list : FaultList) where
   -- a number whose fault has a place is below 192
   pub placed_below : (n : ℕ) → is_some (place_of (fault_of list n)) ≡ true → n < 192
   placed_below n h = below_by (fault_of list n) n refl h
+
+  with_below : (n : ℕ) (f : Option Fault) (m : ℕ) (others : List ℕ) → with_fault list n f ≡ m ∷ others → m < 192
+  with_below n None m others e = let z : ◌≡◌ {A = ℕ} 0 1 = cc in absurd (omega arith)
+  with_below n (Some f) m others e = sits_below list f.site m (first_is list f.site n m others e).sits
+
+  numbers_below : (r : Option ℕ) (m : ℕ) (others : List ℕ) → numbers_with list r ≡ m ∷ others → m < 192
+  numbers_below None m others e = let z : ◌≡◌ {A = ℕ} 0 1 = cc in absurd (omega arith)
+  numbers_below (Some n) m others e = with_below n (fault_of list n) m others e
+
+-- what an iterator gives is below 192
+pub left_below : (it : NumbersAt) (m : ℕ) (others : List ℕ) → numbers_left it ≡ m ∷ others → m < 192
+left_below it m others e = numbers_below it.index.now.list it.next m others e

@@ -25,7 +25,7 @@ module _ (list : FaultList) (s : Site) where
       let rest = numbers_from list s (n + 1) in
       ap (λ (left : ℕ). filter (λ k. sits_at s (fault_of list k)) (range_with_len n left)) q ∙ ap (λ (c : Bool). cond c (n ∷ rest) rest) e
 
-  numbers_past : (n : ℕ) → 192 ≤ n → numbers_from list s n ≡ []
+  pub numbers_past : (n : ℕ) → 192 ≤ n → numbers_from list s n ≡ []
   unfolding numbers_from
   numbers_past n le =
       let q : 192 - n ≡ 0 = omega arith in

@@ -1,5 +1,5 @@
 -- A gate worked out by tracks from the rows gives the tracks of its value.
-use Rattle.std.proofs.Common.{◌≡◌, ℕ, ◌+◌, ◌-◌, ◌≤◌, Bool, true, false, cond, ltb, List, sym, refl, ap, ◌∙◌, add-one, arith}
+use Rattle.std.proofs.Common.{◌≡◌, ℕ, ◌+◌, ◌-◌, ◌≤◌, Bool, true, false, cond, ltb, List, sym, refl, ap, ◌∙◌, arith}
 use Rattle.std.proofs.lemmas.Bool.{ltb-false}
 use Rattle.ternary.specs.declared.Value.{Value}
 use Rattle.ternary.specs.Logics.{Logic, Tracks as Pair, tracks, by_tracks}
@@ -21,40 +21,6 @@ use Rattle.site_index.specs.Sites.{fault_of}
 use Rattle.step.specs.Rows.{held_at, reading}
 use Rattle.step.specs.Pins.{pin_reads}
 use Rattle.step.proofs.Looks.{held_tracks}
-
--- the invariant of a circuit, as one fact of its netlist
-pub lawful : (c : Circuit) → Lawful c.netlist
-lawful c = record {
-  inputs_some = c.fed.0;
-  inputs_few = c.fed.1;
-  gates_some = c.gated.0;
-  gates_few = c.gated.1;
-  outputs_some = c.observed.0;
-  outputs_few = c.observed.1;
-  gates_lawful = λ k lt. record {
-    pins_enough = (c.wide k lt).0;
-    pins_few = (c.wide k lt).1;
-    named = λ j l. c.named k j lt l;
-    products_some = (c.summed k lt).0;
-    products_few = (c.summed k lt).1;
-    used_some = λ p l. c.used_some k p lt l;
-    used_within = λ p l. c.used_within k p lt l;
-    inverted_used = λ p l. c.inverted_used k p (lt, l);
-  };
-  gate_lines = c.gate_lines;
-  rising = c.rising;
-}
-
--- a literal by its bit of the mask
-pub literal_by : {A : Type 0} (L : Logic A) (pin : ℕ → A) (inverted j : ℕ) {b : Bool} → bit inverted j ≡ b → literal L pin inverted j ≡ cond b (L.invert (pin j)) (pin j)
-unfolding literal
-literal_by L pin inverted j e = ap (λ (b : Bool). cond b (L.invert (pin j)) (pin j)) e
-
--- one pin more in a product
-pub product_more : {A : Type 0} (L : Logic A) (pin : ℕ → A) (used inverted j : ℕ) (b : Bool) → bit used j ≡ b
-    → product L pin used inverted (j + 1) ≡ cond b (L.both (product L pin used inverted j) (literal L pin inverted j)) (product L pin used inverted j)
-product_more L pin used inverted j b e =
-    ap (product L pin used inverted) (add-one j) ∙ ap (λ (c : Bool). cond c (L.both (product L pin used inverted j) (literal L pin inverted j)) (product L pin used inverted j)) e
 
 module _ {S : Type 0} (m : S → ℕ → Bool) (lines : List (Line S)) (n : ℕ) (netlist : Netlist) where
   abbrev A : Lines Value

@@ -27,7 +27,7 @@ module _ {A B : Type 0} {L : Logic A} {M : Logic B} {R : A → B → Type 0} (ke
       → Each c.netlist.gates (λ k. R (gate_value L c.netlist f s k) (gate_value M c.netlist f t k))
   gate_keeps c f s t inputs gates k lt =
       driven_in_keeps keeps c.netlist f (line c.netlist s) (line c.netlist t) k
-      (λ j l. line_keeps c.netlist s t inputs gates (pin_at (gate_at c.netlist.gate k) j) (c.named k j lt l))
+      (λ j l. line_keeps c.netlist s t inputs gates (pin_at (gate_at c.netlist.gate k) j) ((c.lawful.gates_lawful k lt).named j l))
       (s.gate k) (t.gate k) (gates k lt)
 
 pub extends : (c : Circuit) (f : Option Fault) → Extends (chip c.netlist f)

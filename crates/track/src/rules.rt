@@ -7,6 +7,13 @@ use crate::table::Track;
 use fault_set::set::FaultSet;
 
 impl<S: FaultSet> Track<S> {
+    /// The answer of circuit n.
+    pub fn answer(&self, n: u8) -> bool
+        ensures { result ≡ answer S.member self.now n }
+    {
+        self.good != self.differ.has(n)
+    }
+
     // This answer where both parts have it, else the other.
     fn unanimous(&mut self, part: &Track<S>, wanted: bool)
         ensures { (n : ℕ) → is wanted (answer S.member self.new n) ≡ (is wanted (answer S.member self.old n) && is wanted (answer S.member part.now n)) }

@@ -11,6 +11,6 @@ returns g c =
     let m = g.S.FaultSet.member in
     let row = get_or c.args.lines.now c.args.i c.index-lines-i.result in
     c.meant.ensures
-    ∙ ap₂ meaning (differing row.held.one.good (m row.held.one.differ c.args.n) c.has.result c.has.ensures) (differing row.held.zero.good (m row.held.zero.differ c.args.n) c.has-2.result c.has-2.ensures)
+    ∙ ap₂ meaning c.answer.ensures c.answer-2.ensures
     ∙ value_whole (answer m row.held.one c.args.n) (answer m row.held.zero c.args.n)
     ∙ sym (ap value (look_at (λ (x : Line g.row.S.Denot). whole (answers m x.held c.args.n)) unknown c.args.lines.now c.args.i c.index-lines-i.result (omega arith)))

@@ -2,14 +2,13 @@
 use Rattle.std.proofs.Common.{◌≡◌, ℕ, ◌+◌, ◌-◌, ◌≤◌, Bool, true, false, cond, ltb, List, sym, refl, ap, ◌∙◌, arith}
 use Rattle.std.proofs.lemmas.Bool.{ltb-false}
 use Rattle.ternary.specs.declared.Value.{Value}
-use Rattle.ternary.specs.Logics.{Logic, Tracks as Pair, tracks, by_tracks}
+use Rattle.ternary.specs.Logics.{Tracks as Pair, tracks, by_tracks}
 use Rattle.ternary.proofs.Keeps.{tracks_kept}
 use Rattle.circuit.specs.declared.netlist.Netlist.{Netlist}
 use Rattle.circuit.specs.declared.site.Site.TheVariants.{Stem}
 use Rattle.circuit.specs.declared.site.FaultList.{FaultList}
-use Rattle.circuit.specs.declared.circuit.Circuit.{Circuit}
-use Rattle.circuit.specs.Gates.{bit, literal, product, driven}
-use Rattle.circuit.specs.Netlists.{gate_at, pin_at, Lawful}
+use Rattle.circuit.specs.Gates.{driven}
+use Rattle.circuit.specs.Netlists.{gate_at, pin_at}
 use Rattle.circuit.specs.Chips.{stuck_at, seen}
 use Rattle.circuit.proofs.Kept.{seen_keeps, driven_in_keeps}
 use Rattle.switching.specs.Lines.{Lines, line}

@@ -122,6 +122,7 @@ impl<'a, S: FaultSet> GateView<'a, S> {
     }
 
     // The OR of the products.
+    // Kept, no plainer: zip and take over the rows of both masks say no more than p up to the count.
     fn sum(&self, terms: &Sum) -> Tracks<S>
         requires { terms.now.products ≤ 8 }
         ensures { (n : ℕ) → answers S.member result n ≡ sum by_tracks (pin_reads S.member self.now.circuit.now.netlist self.now.index.now.list self.now.lines.now n self.now.k) (gate_at self.now.circuit.now.netlist.gate self.now.k).pins terms.now terms.now.products }

@@ -3,7 +3,7 @@ use Rattle.track.specs.declared.table.Line.{Line}
 use Rattle.track.specs.Answers.{answer, answers, whole, value, meaning}
 use Rattle.step.specs.Rows.{unknown}
 use Rattle.step.proofs.Looks.{look_at}
-use Rattle.step.proofs.Looks.{value_whole, differing}
+use Rattle.step.proofs.Looks.{value_whole}
 use Rattle.step.proofs.ask.value_at.Goals as goal
 
 pub returns : goal.returns

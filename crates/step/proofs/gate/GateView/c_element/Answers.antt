@@ -1,8 +1,6 @@
-use Rattle.std.proofs.Common.{◌≡◌, ℕ, ◌+◌, sym, ap, ◌∙◌, ap₂, add-one, arith}
+use Rattle.std.proofs.Common.{◌+◌, sym, ap, ◌∙◌, ap₂, add-one}
 use Rattle.ternary.specs.Logics.{by_tracks}
-use Rattle.circuit.specs.declared.gate.Function.TheVariants.{CElement}
-use Rattle.circuit.specs.Gates.{all, hold, function_of}
-use Rattle.circuit.specs.Netlists.{gate_at}
+use Rattle.circuit.specs.Gates.{all, hold}
 use Rattle.step.specs.Rows.{held_at}
 use Rattle.step.specs.Pins.{pin_reads}
 use Rattle.step.proofs.gate.GateView.c_element.Goals as goal

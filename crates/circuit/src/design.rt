@@ -18,6 +18,7 @@ fn pins_at_start(gate: &Gate, start: &[bool; 48]) -> [bool; 8]
     ensures { (j : ℕ) → j < 8 → slice_index_or result j false ≡ pins_of gate.now start.now j }
 {
     let mut pins = [false; 8];
+    // Kept, proof did not close: of `map` over an array nothing is known but single calls, and not that its closure still reads the same start.
     for (j, line) in gate.pin.iter().enumerate() {
         pins[j] = start.get(*line as usize).copied().unwrap_or(false);
     }

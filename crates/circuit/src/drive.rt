@@ -55,6 +55,7 @@ fn sum_of<T: Signal>(pins: &[T], own: &T, terms: &Sum) -> T
     ensures { (n : ℕ) → T.meaning result n ≡ sum T.logic (meant T.meaning own.now pins.now n) (length pins.now) terms.now terms.now.products }
 {
     let mut any = own.constant(false);
+    // Kept, no plainer: a sum may count more products than its rows have, and a chain over the rows would end with them.
     for p in 0..terms.products {
         let used = mask_at(&terms.used, p);
         let inverted = mask_at(&terms.inverted, p);

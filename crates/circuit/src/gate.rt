@@ -1,5 +1,6 @@
 // Gates as a netlist gives them: plain values, with no invariant of their own.
 
+// Kept, rule of the project: nothing is allocated, so a sum is fixed rows with a count; they lie as in a job file, all used masks before the inverted ones.
 /// An OR of products. Product p is the AND of the pins in its used mask, each inverted where its other mask has a bit; bit j is pin j.
 #[derive(Clone, Copy)]
 pub struct Sum {
@@ -15,6 +16,7 @@ pub enum Function {
     CElement { inverted: u8 },
 }
 
+// Kept, rule of the project: nothing is allocated, so the pins are a fixed table with a count.
 /// A gate: how many pins it has, the line that each pin reads, and its function.
 #[derive(Clone, Copy)]
 pub struct Gate {

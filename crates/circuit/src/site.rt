@@ -18,6 +18,7 @@ pub struct Fault {
     pub stuck: bool,
 }
 
+// Kept, rule of the project: nothing is allocated and a job is Copy, so the list is a fixed table with a count.
 /// The faults of a job, numbered from 0; places past the count are not looked at.
 #[derive(Clone, Copy)]
 pub struct FaultList {

@@ -1,9 +1,11 @@
 -- From the parts of a file to its job: what is left over, which faults are graded, and that the job is lawful.
-use Rattle.std.proofs.Common.{◌≡◌, ℕ, zero, suc, ◌+◌, ◌-◌, ◌<◌, ◌≤◌, true, List, ◌++◌, map, length, take, Some, None, Ok, Err, Option, sym, refl, ap, ◌∙◌, ap₂, arith, le-ltb, lt-ltb}
+use Rattle.std.proofs.Common.{◌≡◌, ℕ, zero, suc, ◌+◌, ◌-◌, ◌<◌, ◌≤◌, true, List, ◌++◌, map, length, take, Some, None, Ok, Err, Option, Result, MatchResult, sym, refl, ap, ◌∙◌, ap₂, arith, le-ltb, lt-ltb}
 use Rattle.std.proofs.lemmas.List.{length-take-le, get_or-take}
 use Rattle.refusal.specs.declared.FileFault.{FileFault}
 use Rattle.refusal.specs.declared.FileFault.TheVariants.{Overlong}
+use Rattle.refusal.specs.declared.CircuitFault.{CircuitFault}
 use Rattle.refusal.specs.declared.CircuitFault.TheVariants.{File, Crowded, Restless}
+use Rattle.circuit.specs.declared.circuit.Circuit.{Circuit}
 use Rattle.circuit.specs.declared.gate.Gate.{Gate}
 use Rattle.circuit.specs.declared.netlist.Netlist.{Netlist}
 use Rattle.circuit.specs.declared.site.Fault.{Fault}
@@ -43,8 +45,8 @@ made_trimmed n = ap (λ (xs : List Fault). stems (n.inputs + n.gates) ++ xs) (ga
 pub made_graded : (n : Netlist) (faults : List Fault) → faults ≡ made n → length (made n) ≤ 192 → graded (trimmed n) None ≡ rested (record { netlist = trimmed n; faults = faults }) (restless (trimmed n))
 made_graded n faults e l = rw (made_trimmed n, le-ltb 192 (length (made n)) l, e)
 
-pub made_crowded : (n : Netlist) (long : ℕ) → long ≡ length (made n) → 192 < long → graded (trimmed n) None ≡ Err (Crowded long)
-made_crowded n long e l = let m : 192 < length (made n) = omega arith in rw (made_trimmed n, lt-ltb 192 (length (made n)) m, e)
+pub made_crowded : (n : Netlist) → 192 < length (made n) → graded (trimmed n) None ≡ Err (Crowded (length (made n)))
+made_crowded n l = rw (made_trimmed n, lt-ltb 192 (length (made n)) l)
 
 -- a job that is given is lawful, so its faults are on sites of its circuit
 module _ (file : List ℕ) (n : Netlist) (count : ℕ) (table : List Fault) (given : job_of file ≡ Ok (record { netlist = trimmed n; faults = take count table })) (room : count ≤ length table) where
@@ -71,3 +73,19 @@ module _ (file rest : List ℕ) (n : Netlist) (o : Option (List Fault)) (faults 
 
   pub not_at_rest : (line : ℕ) → restless n ≡ Some line → Err (Restless line) ≡ job_of file
   not_at_rest line e = sym (checked (Some line) e)
+
+-- what is known of the start once its refusal is named
+module _ (n : Netlist) (told : Result Circuit ℕ) (is : MatchResult told (λ c. (c.netlist ≡ n) × (restless n ≡ None)) (λ line. restless n ≡ Some line)) (P : ℕ → Type 0) where
+  pub given_circuit : (c : Circuit) → MatchResult told (λ d. ◌≡◌ {A = Result Circuit CircuitFault} (Ok c) (Ok d)) P → ((line : ℕ) → P line → ⊥) → (c.netlist ≡ n) × (restless n ≡ None)
+  given_circuit c named never = go told is named
+    where
+      go : (told : Result Circuit ℕ) → MatchResult told (λ c. (c.netlist ≡ n) × (restless n ≡ None)) (λ line. restless n ≡ Some line) → MatchResult told (λ d. ◌≡◌ {A = Result Circuit CircuitFault} (Ok c) (Ok d)) P → (c.netlist ≡ n) × (restless n ≡ None)
+      go (Ok d) w e = (let same : c ≡ d = cc in ap (λ (x : Circuit). x.netlist) same ∙ w.0, w.1)
+      go (Err line) w e = absurd (never line e)
+
+  pub given_line : (f : CircuitFault) → MatchResult told (λ d. ◌≡◌ {A = Result Circuit CircuitFault} (Err f) (Ok d)) P → ((line : ℕ) → P line → f ≡ Restless line) → (line : ℕ) × (f ≡ Restless line) × (restless n ≡ Some line)
+  given_line f named by = go told is named
+    where
+      go : (told : Result Circuit ℕ) → MatchResult told (λ c. (c.netlist ≡ n) × (restless n ≡ None)) (λ line. restless n ≡ Some line) → MatchResult told (λ d. ◌≡◌ {A = Result Circuit CircuitFault} (Err f) (Ok d)) P → (line : ℕ) × (f ≡ Restless line) × (restless n ≡ Some line)
+      go (Ok d) w e = absurd (let z : ◌≡◌ {A = ℕ} 0 1 = cc in omega arith)
+      go (Err line) w e = (line, by line e, w)

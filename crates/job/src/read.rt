@@ -1,6 +1,6 @@
 // Reading a job file whole.
 ghost use Rattle.std.specs.Prelude.{◌≡◌, ℕ, ◌≤◌, List, Ok, Err, MatchResult, OnErr};
-ghost use Rattle.circuit.specs.Netlists.{Lawful, trimmed, restless};
+ghost use Rattle.circuit.specs.Netlists.{trimmed, restless};
 ghost use Rattle.format.specs.Law.{Exactly};
 ghost use Rattle.format.specs.Reading.{job_of, graded, rested};
 ghost use Rattle.reader.specs.Parts.{listed, listed_in, Few};
@@ -9,22 +9,19 @@ ghost use Rattle.job.specs.Answers.{gives, answered};
 use crate::job::Job;
 use crate::made::made_list;
 use circuit::circuit::Circuit;
+use circuit::design::Design;
 use circuit::site::FaultList;
-use reader::parts::{Parts, read_parts};
+use reader::parts::read_parts;
 use refusal::{CircuitFault, FileFault};
 
 // The faults that the file names, or the made list.
-fn faults_of(parts: &Parts) -> Result<FaultList, CircuitFault>
-    requires lawful { Lawful parts.now.netlist }
-    requires few { Few parts.now.faults }
-    ensures { MatchResult result (λ list. (list.count ≤ 192) × (graded (trimmed parts.now.netlist) (listed_in parts.now.faults) ≡ rested (record { netlist = trimmed parts.now.netlist; faults = listed list }) (restless (trimmed parts.now.netlist)))) (λ e. graded (trimmed parts.now.netlist) (listed_in parts.now.faults) ≡ Err e) }
+fn faults_of(design: &Design, named: Option<FaultList>) -> Result<FaultList, CircuitFault>
+    requires { Few named }
+    ensures { MatchResult result (λ list. (list.count ≤ 192) × (graded (trimmed design.now.netlist) (listed_in named) ≡ rested (record { netlist = trimmed design.now.netlist; faults = listed list }) (restless (trimmed design.now.netlist)))) (λ e. graded (trimmed design.now.netlist) (listed_in named) ≡ Err e) }
 {
-    match parts.faults {
+    match named {
         Some(list) => Ok(list),
-        None => match made_list(&parts.netlist) {
-            Ok(list) => Ok(list),
-            Err(length) => Err(CircuitFault::Crowded(length)),
-        },
+        None => made_list(design),
     }
 }
 
@@ -37,12 +34,10 @@ fn job_of(file: &[u8]) -> Result<Job, CircuitFault>
         let place = file.len() - rest.len();
         return Err(CircuitFault::File(FileFault::Overlong(place)));
     }
-    let faults = faults_of(&parts)?;
-    let netlist = parts.netlist;
-    match Circuit::at_rest(netlist) {
-        Ok(circuit) => Ok(Job::of(circuit, faults)),
-        Err(line) => Err(CircuitFault::Restless(line)),
-    }
+    let design = Design::of(parts.netlist);
+    let faults = faults_of(&design, parts.faults)?;
+    let circuit = Circuit::at_rest(design).map_err(CircuitFault::Restless)?;
+    Ok(Job::of(circuit, faults))
 }
 
 // Writes the job of a file whole, or leaves the lent one as it was.

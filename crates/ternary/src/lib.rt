@@ -63,10 +63,6 @@ impl Value {
     pub fn join(self, other: Value) -> Value
         ensures { result ≡ join self other }
     {
-        match (self, other) {
-            (Value::Zero, Value::Zero) => Value::Zero,
-            (Value::One, Value::One) => Value::One,
-            _ => Value::Two,
-        }
+        if self == other { self } else { Value::Two }
     }
 }

@@ -1,9 +1,0 @@
-use Rattle.std.proofs.Common.{subst, append_assoc, arith}
-use Rattle.job.specs.Making.{Holds}
-use Rattle.job.proofs.made.add_both.Goals as goal
-
-pub returns : goal.returns
-returns c = record {
-  two = omega (arith, c.add.ensures.one, c.add-2.ensures.one);
-  holds = λ l h. subst (Holds c.add-2.new.making) (append_assoc l _ _) (c.add-2.ensures.holds _ (c.add.ensures.holds l h));
-}

@@ -7,7 +7,6 @@ ghost use Rattle.phases.specs.Passes.{Elsewhere};
 use crate::changes::Changes;
 use circuit::circuit::Circuit;
 use fault_set::set::FaultSet;
-use track::same::same_tracks;
 use track::table::Line;
 
 // Line i takes its draft; whether the draft has the same answers as what was held.
@@ -17,7 +16,7 @@ fn commit_line<S: FaultSet>(lines: &mut [Line<S>], i: usize) -> bool
     ensures same { Decides result ((n : ℕ) → stored_at S.member lines.old n i ≡ draft_at S.member lines.old n i) }
 {
     let line = &lines[i];
-    let same = same_tracks(&line.held, &line.draft);
+    let same = line.held.same(&line.draft);
     lines[i].held = lines[i].draft;
     same
 }

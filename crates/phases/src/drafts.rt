@@ -10,10 +10,9 @@ use crate::changes::Changes;
 use circuit::circuit::Circuit;
 use fault_set::set::FaultSet;
 use site_index::SiteIndex;
-use step::rows::{Reading, held, put_draft};
-use step::target::target_of;
+use step::gate::GateView;
+use step::rows::{Reading, put_draft};
 use switching::Phase;
-use track::pairs::join_in;
 use track::table::{Line, Tracks};
 
 // What a pass gives gate k.
@@ -28,12 +27,12 @@ fn next_of<S: FaultSet>(
     requires gated { k < circuit.now.netlist.gates }
     ensures { (n : ℕ) → answers S.member result n ≡ tracks_of (next_of S.member circuit.now index.now.list phase lines.now n k) }
 {
-    let target = target_of(circuit, index, lines, Reading::Whole, k);
+    let gate = GateView::new(circuit, index, lines, Reading::Whole, k);
+    let target = gate.target_of();
     match phase {
         Phase::Spread => {
-            let line = circuit.inputs() + k;
-            let mut next = held(lines, line as usize, Reading::Whole);
-            join_in(&mut next, &target);
+            let mut next = gate.own();
+            next.join_in(&target);
             next
         }
         Phase::Settle => target,

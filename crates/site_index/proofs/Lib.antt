@@ -1,2 +1,3 @@
 pub mod Leading
 pub mod Tables
+pub mod Following

@@ -1,5 +1,6 @@
 -- Fault n goes into the tables, or has no place in them.
 use Rattle.std.proofs.Common.{◌≡◌, ℕ, ◌+◌, ◌-◌, ◌<◌, ◌≤◌, Bool, true, false, cond, ◌&&◌, eqb, ltb, List, length, get_or, set, replicate, Some, None, Option, sym, refl, ap, ◌∙◌, subst, ap₂, ⊎_elim, arith}
+use Rattle.std.specs.List.{slice_get}
 use Rattle.std.proofs.lemmas.List.{length-set, get_or-set_same, get_or-set_other, get_or-replicate}
 use Rattle.std.proofs.lemmas.Bool.{cases_eq, cases_Bool, both_ways, eqb-true, eq-eqb, ne_eqb, ltb-true, and_parts, true≢false}
 use Rattle.circuit.specs.declared.site.Site.{Site}
@@ -7,16 +8,16 @@ use Rattle.circuit.specs.declared.site.Site.TheVariants.{Stem, Pin}
 use Rattle.circuit.specs.declared.site.Fault.{Fault}
 use Rattle.circuit.specs.declared.site.FaultList.{FaultList}
 use Rattle.circuit.specs.Chips.{same_site}
-use Rattle.site_index.specs.Sites.{fault_of, sits_at, on_table, place, place_of, lead, Firsts, Nexts}
-use Rattle.site_index.proofs.Leading.{sits_below, lead_at}
+use Rattle.site_index.specs.Sites.{fault_of, sits_at, on_table, place, place_of, numbers_from, Firsts, Nexts}
+use Rattle.site_index.proofs.Leading.{sits_below, numbers_at}
 
-one_site : (s t : Site) → same_site s t ≡ true → s ≡ t
+pub one_site : (s t : Site) → same_site s t ≡ true → s ≡ t
 one_site (Stem x) (Stem y) e = ap Stem (eqb-true x y e)
 one_site (Stem x) (Pin y j) e = absurd (true≢false (sym e))
 one_site (Pin x i) (Stem y) e = absurd (true≢false (sym e))
 one_site (Pin x i) (Pin y j) e = let p = and_parts (eqb x y) (eqb i j) e in ap₂ Pin (eqb-true x y p.0) (eqb-true i j p.1)
 
-same_self : (s : Site) → same_site s s ≡ true
+pub same_self : (s : Site) → same_site s s ≡ true
 same_self (Stem x) = eq-eqb x x refl
 same_self (Pin x i) = ap₂ ◌&&◌ (eq-eqb x x refl) (eq-eqb i i refl)
 
@@ -72,64 +73,79 @@ placed_within (Some f) p e =
     subst (λ (q : ℕ). q < 432) w.1 (place_within f.site w.0)
 
 -- both tables at once: their lengths, and that they are right from a number on
-pub record Right (list : FaultList) (from : ℕ) (first next : List ℕ) : Type 0 where
+pub record RightTables (list : FaultList) (from : ℕ) (first next : List (Option ℕ)) : Type 0 where
   pub wide : length first ≡ 432
   pub long : length next ≡ 192
   pub firsts : Firsts list from first
   pub nexts : Nexts list from next
 
+-- the same as one word, which proofs pass on whole
+unfoldable pub Right : FaultList → ℕ → List (Option ℕ) → List (Option ℕ) → Type 0
+Right list from first next = RightTables list from first next
+
+pub tables : (list : FaultList) (from : ℕ) (first next : List (Option ℕ)) → Right list from first next → RightTables list from first next
+unfolding Right
+tables list from first next r = r
+
 -- with nothing in them they are right past the last number
-pub right_none : (list : FaultList) → Right list 192 (replicate 432 192) (replicate 192 192)
-unfolding lead
+pub right_none : (list : FaultList) → Right list 192 (replicate 432 None) (replicate 192 None)
+unfolding numbers_from Right
 right_none list = record {
   wide = refl;
   long = refl;
-  firsts = λ s on. get_or-replicate 432 (place s) 192 0 (place_within s on);
+  firsts = λ s on. get_or-replicate 432 (place s) None None (place_within s on);
   nexts = λ n s h. absurd (omega (arith, h.0, sits_below list s n h.2));
 }
 
 -- one number less, as a loop that counts down has it
-module _ (list : FaultList) (above : ℕ) (first next : List ℕ) (some : 0 < above) (few : above ≤ 192) (was : Right list above first next) where
+module _ (list : FaultList) (above : ℕ) (first next : List (Option ℕ)) (some : 0 < above) (few : above ≤ 192) (was : Right list above first next) where
   abbrev n : ℕ
   n = above - 1
 
   lt : n < 192
   lt = omega arith
 
-  right : Right list (n + 1) first next
-  right = let up : above ≡ (above - 1) + 1 = omega arith in subst (λ (i : ℕ). Right list i first next) up was
+  right : RightTables list (n + 1) first next
+  right = let up : above ≡ (above - 1) + 1 = omega arith in subst (λ (i : ℕ). RightTables list i first next) up (tables list above first next was)
 
-  pub right_more : (p : ℕ) → place_of (fault_of list n) ≡ Some p → Right list n (set first p n) (set next n (get_or first p 0))
+  -- the first of the numbers with this one, and without it
+  first_at : (s : Site) (b : Bool) → sits_at s (fault_of list n) ≡ b → slice_get (numbers_from list s n) 0 ≡ cond b (Some n) (slice_get (numbers_from list s (n + 1)) 0)
+  first_at s true e = ap (λ (xs : List ℕ). slice_get xs 0) (numbers_at list s n true lt e)
+  first_at s false e = ap (λ (xs : List ℕ). slice_get xs 0) (numbers_at list s n false lt e)
+
+  pub right_more : (p : ℕ) → place_of (fault_of list n) ≡ Some p → Right list n (set first p (Some n)) (set next n (get_or first p None))
+  unfolding Right
   right_more p e =
       let tells = place_tells (fault_of list n) p e in
       let room : p < length first = omega (arith, placed_within (fault_of list n) p e, right.wide) in
       let far : n < length next = omega (arith, right.long) in
       record {
-        wide = length-set first p n ∙ right.wide;
-        long = length-set next n (get_or first p 0) ∙ right.long;
+        wide = length-set first p (Some n) ∙ right.wide;
+        long = length-set next n (get_or first p None) ∙ right.long;
         firsts = λ s on. ⊎_elim
             (λ (q : place s ≡ p).
-            ap (λ (i : ℕ). get_or (set first p n) i 0) q ∙ get_or-set_same first p n 0 room ∙ sym (lead_at list s n true lt (tells s on ∙ eq-eqb p (place s) (sym q))))
+            ap (λ (i : ℕ). get_or (set first p (Some n)) i None) q ∙ get_or-set_same first p (Some n) None room ∙ sym (first_at s true (tells s on ∙ eq-eqb p (place s) (sym q))))
             (λ (ne : place s ≡ p → ⊥).
-            get_or-set_other first p (place s) n 0 ne ∙ right.firsts s on ∙ sym (lead_at list s n false lt (tells s on ∙ ne_eqb p (place s) (λ q. ne (sym q)))))
+            get_or-set_other first p (place s) (Some n) None ne ∙ right.firsts s on ∙ sym (first_at s false (tells s on ∙ ne_eqb p (place s) (λ q. ne (sym q)))))
             (cases_eq (place s) p);
         nexts = λ i s h. ⊎_elim
             (λ (q : i ≡ n).
             let sits : sits_at s (fault_of list n) ≡ true = subst (λ (j : ℕ). sits_at s (fault_of list j) ≡ true) q h.2 in
             let at : p ≡ place s = eqb-true p (place s) (sym (tells s h.1) ∙ sits) in
-            subst (λ (j : ℕ). get_or (set next n (get_or first p 0)) j 0 ≡ lead list s (192 - (j + 1))) (sym q)
-            (get_or-set_same next n (get_or first p 0) 0 far ∙ ap (λ (j : ℕ). get_or first j 0) at ∙ right.firsts s h.1))
-            (λ (ne : i ≡ n → ⊥). get_or-set_other next n i (get_or first p 0) 0 ne ∙ right.nexts i s (omega (arith, h.0), h.1, h.2))
+            subst (λ (j : ℕ). get_or (set next n (get_or first p None)) j None ≡ slice_get (numbers_from list s (j + 1)) 0) (sym q)
+            (get_or-set_same next n (get_or first p None) None far ∙ ap (λ (j : ℕ). get_or first j None) at ∙ right.firsts s h.1))
+            (λ (ne : i ≡ n → ⊥). get_or-set_other next n i (get_or first p None) None ne ∙ right.nexts i s (omega (arith, h.0), h.1, h.2))
             (cases_eq i n);
       }
 
   pub right_still : place_of (fault_of list n) ≡ None → Right list n first next
+  unfolding Right
   right_still e =
       let tells = no_place_tells (fault_of list n) e in
       record {
         wide = right.wide;
         long = right.long;
-        firsts = λ s on. right.firsts s on ∙ sym (lead_at list s n false lt (tells s on));
+        firsts = λ s on. right.firsts s on ∙ sym (first_at s false (tells s on));
         nexts = λ i s h. ⊎_elim
             (λ (q : i ≡ n). absurd (both_ways (sits_at s (fault_of list n)) (tells s h.1) (subst (λ (j : ℕ). sits_at s (fault_of list j) ≡ true) q h.2)))
             (λ (ne : i ≡ n → ⊥). right.nexts i s (omega (arith, h.0), h.1, h.2))

@@ -1,5 +1,6 @@
 -- The faults of a list by number and by site.
-use Rattle.std.specs.Prelude.{◌≡◌, ℕ, zero, suc, ◌+◌, ◌-◌, ◌*◌, ◌<◌, ◌≤◌, Bool, true, false, cond, ◌&&◌, List, Some, None, Option, nat_lt, slice_index}
+use Rattle.std.specs.Prelude.{◌≡◌, ℕ, ◌+◌, ◌-◌, ◌*◌, ◌≤◌, Bool, true, false, cond, ◌&&◌, List, Some, None, Option, is_some, nat_lt, slice_index_or}
+use Rattle.std.specs.List.{filter, range_with_len, slice_get}
 use Rattle.circuit.specs.declared.site.Site.{Site}
 use Rattle.circuit.specs.declared.site.Site.TheVariants.{Stem, Pin}
 use Rattle.circuit.specs.declared.site.Fault.{Fault}
@@ -31,20 +32,18 @@ abbrev pub place_of : Option Fault → Option ℕ
 place_of None = None
 place_of (Some f) = cond (on_table f.site) (Some (place f.site)) None
 
--- x is the first number from a number on whose fault sits at the site, else 192
-pub record Leads (list : FaultList) (s : Site) (from x : ℕ) : Type 0 where
-  pub bound : x ≤ 192
-  pub least : (n : ℕ) → from ≤ n → n < x → sits_at s (fault_of list n) ≡ false
-  pub found : x < 192 → (from ≤ x) × (sits_at s (fault_of list x) ≡ true)
+-- the numbers from one on whose fault sits at the site, in rising order: there are no faults past number 191
+unfoldable pub numbers_from : FaultList → Site → ℕ → List ℕ
+numbers_from list s from = filter (λ n. sits_at s (fault_of list n)) (range_with_len from (192 - from))
 
--- the same by computation, among the last of the 192 numbers, as many as left
-unfoldable pub lead : FaultList → Site → ℕ → ℕ
-lead list s zero = 192
-lead list s (suc left) = cond (sits_at s (fault_of list (192 - suc left))) (192 - suc left) (lead list s left)
+-- whether a number, if there is one, has a fault with a place
+abbrev pub placed_number : FaultList → Option ℕ → Bool
+placed_number list None = true
+placed_number list (Some n) = is_some (place_of (fault_of list n))
 
--- the tables are right from a number on
-abbrev pub Firsts : FaultList → ℕ → List ℕ → Type 0
-Firsts list from first = (s : Site) → on_table s ≡ true → slice_index first (place s) ≡ lead list s (192 - from)
+-- the tables are right from a number on: they hold the first of these numbers, if there is one
+abbrev pub Firsts : FaultList → ℕ → List (Option ℕ) → Type 0
+Firsts list from first = (s : Site) → on_table s ≡ true → slice_index_or first (place s) None ≡ slice_get (numbers_from list s from) 0
 
-abbrev pub Nexts : FaultList → ℕ → List ℕ → Type 0
-Nexts list from next = (n : ℕ) (s : Site) → (from ≤ n) × (on_table s ≡ true) × (sits_at s (fault_of list n) ≡ true) → slice_index next n ≡ lead list s (192 - (n + 1))
+abbrev pub Nexts : FaultList → ℕ → List (Option ℕ) → Type 0
+Nexts list from next = (n : ℕ) (s : Site) → (from ≤ n) × (on_table s ≡ true) × (sits_at s (fault_of list n) ≡ true) → slice_index_or next n None ≡ slice_get (numbers_from list s (n + 1)) 0

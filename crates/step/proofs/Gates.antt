@@ -1,15 +1,14 @@
 -- A gate worked out by tracks from the rows gives the tracks of its value.
-use Rattle.std.proofs.Common.{◌≡◌, ℕ, ◌+◌, ◌-◌, ◌≤◌, Bool, true, false, cond, ltb, List, sym, refl, ap, ◌∙◌, add-one, arith}
+use Rattle.std.proofs.Common.{◌≡◌, ℕ, ◌+◌, ◌-◌, ◌≤◌, Bool, true, false, cond, ltb, List, sym, refl, ap, ◌∙◌, arith}
 use Rattle.std.proofs.lemmas.Bool.{ltb-false}
 use Rattle.ternary.specs.declared.Value.{Value}
-use Rattle.ternary.specs.Logics.{Logic, Tracks as Pair, tracks, by_tracks}
+use Rattle.ternary.specs.Logics.{Tracks as Pair, tracks, by_tracks}
 use Rattle.ternary.proofs.Keeps.{tracks_kept}
 use Rattle.circuit.specs.declared.netlist.Netlist.{Netlist}
 use Rattle.circuit.specs.declared.site.Site.TheVariants.{Stem}
 use Rattle.circuit.specs.declared.site.FaultList.{FaultList}
-use Rattle.circuit.specs.declared.circuit.Circuit.{Circuit}
-use Rattle.circuit.specs.Gates.{bit, literal, product, driven}
-use Rattle.circuit.specs.Netlists.{gate_at, pin_at, Lawful}
+use Rattle.circuit.specs.Gates.{driven}
+use Rattle.circuit.specs.Netlists.{gate_at, pin_at}
 use Rattle.circuit.specs.Chips.{stuck_at, seen}
 use Rattle.circuit.proofs.Kept.{seen_keeps, driven_in_keeps}
 use Rattle.switching.specs.Lines.{Lines, line}
@@ -21,21 +20,6 @@ use Rattle.site_index.specs.Sites.{fault_of}
 use Rattle.step.specs.Rows.{held_at, reading}
 use Rattle.step.specs.Pins.{pin_reads}
 use Rattle.step.proofs.Looks.{held_tracks}
-
--- the invariant of a circuit, as one fact of its netlist
-pub lawful : (c : Circuit) → Lawful c.netlist
-lawful c = c.lawful
-
--- a literal by its bit of the mask
-pub literal_by : {A : Type 0} (L : Logic A) (pin : ℕ → A) (inverted j : ℕ) {b : Bool} → bit inverted j ≡ b → literal L pin inverted j ≡ cond b (L.invert (pin j)) (pin j)
-unfolding literal
-literal_by L pin inverted j e = ap (λ (b : Bool). cond b (L.invert (pin j)) (pin j)) e
-
--- one pin more in a product
-pub product_more : {A : Type 0} (L : Logic A) (pin : ℕ → A) (used inverted j : ℕ) (b : Bool) → bit used j ≡ b
-    → product L pin used inverted (j + 1) ≡ cond b (L.both (product L pin used inverted j) (literal L pin inverted j)) (product L pin used inverted j)
-product_more L pin used inverted j b e =
-    ap (product L pin used inverted) (add-one j) ∙ ap (λ (c : Bool). cond c (L.both (product L pin used inverted j) (literal L pin inverted j)) (product L pin used inverted j)) e
 
 module _ {S : Type 0} (m : S → ℕ → Bool) (lines : List (Line S)) (n : ℕ) (netlist : Netlist) where
   abbrev A : Lines Value

@@ -1,12 +1,11 @@
 -- A look at one row, and what is read there.
-use Rattle.std.proofs.Common.{◌≡◌, ℕ, zero, suc, ◌<◌, Bool, true, false, not, ◌≢◌, List, [], ◌∷◌, map, length, get_or, set, sym, refl, ap, ◌∙◌, arith}
-use mathlib.Core.Bool.{beq}
+use Rattle.std.proofs.Common.{◌≡◌, ℕ, zero, suc, ◌<◌, Bool, true, false, ◌≢◌, List, [], ◌∷◌, map, length, get_or, set, sym, refl, ap, ◌∙◌, arith}
 use Rattle.std.proofs.lemmas.List.{get_or-map, map-set, get_or-set_other}
 use Rattle.ternary.specs.declared.Value.{Value}
 use Rattle.ternary.specs.declared.Value.TheVariants.{Zero, One, Two}
 use Rattle.ternary.specs.Logics.{Tracks as Pair, tracks}
 use Rattle.track.specs.declared.table.Line.{Line}
-use Rattle.track.specs.Answers.{unless, answers, whole, meaning, value}
+use Rattle.track.specs.Answers.{answers, whole, meaning, value}
 use Rattle.step.specs.Rows.{look, unknown, held_at}
 
 pub look_at : {A B : Type 0} (f : A → B) (z : B) (xs : List A) (i : ℕ) (d : A) → i < length xs → look f z xs i ≡ f (get_or xs i d)
@@ -63,10 +62,3 @@ value_whole true true = refl
 value_whole true false = refl
 value_whole false true = refl
 value_whole false false = refl
-
--- an answer is the good one, unless it differs
-pub differing : (good is has : Bool) → has ≡ is → not (beq good has) ≡ unless good is
-differing true true has e = ap (λ (b : Bool). not (beq true b)) e
-differing true false has e = ap (λ (b : Bool). not (beq true b)) e
-differing false true has e = ap (λ (b : Bool). not (beq false b)) e
-differing false false has e = ap (λ (b : Bool). not (beq false b)) e

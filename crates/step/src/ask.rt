@@ -25,9 +25,7 @@ pub fn value_at<S: FaultSet>(lines: &[Line<S>], i: usize, n: u8) -> Value
     ensures { result ≡ value (held_at S.member lines.now n i) }
 {
     let line = &lines[i].held;
-    let one = line.one.good != line.one.differ.has(n);
-    let zero = line.zero.good != line.zero.differ.has(n);
-    meant(one, zero)
+    meant(line.one.answer(n), line.zero.answer(n))
 }
 
 /// The value of line i in the good circuit.

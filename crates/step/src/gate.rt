@@ -1,163 +1,168 @@
-// The function of a gate in all circuits at once, by tracks.
-ghost use Rattle.std.specs.Prelude.{◌≡◌, ℕ, ◌+◌, ◌<◌, ◌≤◌, length, slice_index};
+// What a gate reads of the rows of a table, and what its function then gives, in all circuits at once.
+ghost use Rattle.std.specs.Prelude.{◌≡◌, ℕ, ◌+◌, ◌<◌, ◌≤◌, length};
 ghost use Rattle.ternary.specs.Logics.{by_tracks};
-ghost use Rattle.circuit.specs.Gates.{literal, product, sum, function_of, driven as driven_by};
-ghost use Rattle.circuit.specs.Netlists.{gate_at, Lawful};
+ghost use Rattle.circuit.specs.Gates.{literal, product, sum, function_of, driven};
+ghost use Rattle.circuit.specs.Netlists.{gate_at};
 ghost use Rattle.track.specs.Answers.{answers};
+ghost use Rattle.step.specs.declared.rows.Reading.{Reading};
 ghost use Rattle.step.specs.Pins.{pin_reads};
-ghost use Rattle.step.specs.Rows.{held_at, Readable};
+ghost use Rattle.step.specs.Rows.{held_at, WholeRows, Readable};
 
 use crate::rows::{Reading, held, stick};
+use circuit::circuit::Circuit;
 use circuit::drive::has;
-use circuit::gate::{Function, Sum};
-use circuit::netlist::Netlist;
+use circuit::gate::{Function, Gate, Sum};
 use circuit::site::Site;
 use fault_set::set::FaultSet;
 use site_index::SiteIndex;
-use track::pairs::{and_in, fixed, inverted, or_in};
+use ternary::signal::Signal;
 use track::table::{Line, Tracks};
 
-// What pin j of gate k reads.
-fn pin_of<S: FaultSet>(
-    netlist: &Netlist,
-    index: &SiteIndex,
-    lines: &[Line<S>],
+/// Gate k of a circuit over the rows of its lines, with the faults of a job by their sites.
+#[derive(Drop)]
+pub struct GateView<'a, S: FaultSet> {
+    circuit: &'a Circuit,
+    pub(crate) index: &'a SiteIndex,
+    lines: &'a [Line<S>],
     how: Reading,
     k: u8,
-    j: u8,
-) -> Tracks<S>
-    requires lawful { Lawful netlist.now }
-    requires rows { Readable S.member how (netlist.now.inputs + netlist.now.gates) lines.now }
-    requires gated { k < netlist.now.gates }
-    requires pinned { j < (gate_at netlist.now.gate k).pins }
-    ensures { (n : ℕ) → answers S.member result n ≡ pin_reads S.member netlist.now index.now.list lines.now n k j }
-{
-    let line = netlist.gate[k as usize].pin[j as usize];
-    let mut tracks = held(lines, line as usize, how);
-    let site = Site::Pin {
-        line: netlist.inputs + k,
-        pin: j,
-    };
-    stick(&mut tracks, index, site);
-    tracks
+    ghost gated: { k < circuit.now.netlist.gates },
+    ghost room: { circuit.now.netlist.inputs + circuit.now.netlist.gates ≤ length lines.now },
+    ghost as_said: { how ≡ Reading.Whole → WholeRows S.member (circuit.now.netlist.inputs + circuit.now.netlist.gates) lines.now },
 }
 
-// Pin j of gate k, inverted where the mask has bit j.
-fn literal_of<S: FaultSet>(
-    netlist: &Netlist,
-    index: &SiteIndex,
-    lines: &[Line<S>],
-    how: Reading,
-    k: u8,
-    j: u8,
-    mask: u8,
-) -> Tracks<S>
-    requires lawful { Lawful netlist.now }
-    requires rows { Readable S.member how (netlist.now.inputs + netlist.now.gates) lines.now }
-    requires gated { k < netlist.now.gates }
-    requires pinned { j < (gate_at netlist.now.gate k).pins }
-    ensures { (n : ℕ) → answers S.member result n ≡ literal by_tracks (pin_reads S.member netlist.now index.now.list lines.now n k) mask j }
-{
-    let pin = pin_of(netlist, index, lines, how, k, j);
-    if has(mask, j) { inverted(&pin) } else { pin }
-}
-
-// The AND of the pins of gate k that product p uses.
-fn product_of<S: FaultSet>(
-    netlist: &Netlist,
-    index: &SiteIndex,
-    lines: &[Line<S>],
-    how: Reading,
-    k: u8,
-    terms: &Sum,
-    p: u8,
-) -> Tracks<S>
-    requires lawful { Lawful netlist.now }
-    requires rows { Readable S.member how (netlist.now.inputs + netlist.now.gates) lines.now }
-    requires gated { k < netlist.now.gates }
-    requires termed { p < 8 }
-    ensures { (n : ℕ) → answers S.member result n ≡ product by_tracks (pin_reads S.member netlist.now index.now.list lines.now n k) (slice_index terms.now.used p) (slice_index terms.now.inverted p) (gate_at netlist.now.gate k).pins }
-{
-    let used = terms.used[p as usize];
-    let mask = terms.inverted[p as usize];
-    let mut all = fixed(&lines[0].held, true);
-    for j in 0..netlist.gate[k as usize].pins {
-        if has(used, j) {
-            let part = literal_of(netlist, index, lines, how, k, j, mask);
-            and_in(&mut all, &part);
+impl<'a, S: FaultSet> GateView<'a, S> {
+    /// Gate k, where the first rows are those of the circuit's lines.
+    /// Public only for the layers above, which go through the gates of a circuit and have a row for each line.
+    pub fn new(
+        circuit: &'a Circuit,
+        index: &'a SiteIndex,
+        lines: &'a [Line<S>],
+        how: Reading,
+        k: u8,
+    ) -> GateView<'a, S>
+        requires rows { Readable S.member how (circuit.now.netlist.inputs + circuit.now.netlist.gates) lines.now }
+        requires gated { k < circuit.now.netlist.gates }
+        ensures circuit { result.circuit.now ≡ circuit.now }
+        ensures index { result.index.now ≡ index.now }
+        ensures lines { result.lines.now ≡ lines.now }
+        ensures gate { result.k ≡ k }
+    {
+        GateView {
+            circuit,
+            index,
+            lines,
+            how,
+            k,
         }
     }
-    all
-}
 
-// The OR of the products of gate k.
-fn sum_of<S: FaultSet>(
-    netlist: &Netlist,
-    index: &SiteIndex,
-    lines: &[Line<S>],
-    how: Reading,
-    k: u8,
-    terms: &Sum,
-) -> Tracks<S>
-    requires lawful { Lawful netlist.now }
-    requires rows { Readable S.member how (netlist.now.inputs + netlist.now.gates) lines.now }
-    requires gated { k < netlist.now.gates }
-    requires termed { terms.now.products ≤ 8 }
-    ensures { (n : ℕ) → answers S.member result n ≡ sum by_tracks (pin_reads S.member netlist.now index.now.list lines.now n k) (gate_at netlist.now.gate k).pins terms.now terms.now.products }
-{
-    let mut any = fixed(&lines[0].held, false);
-    for p in 0..terms.products {
-        let part = product_of(netlist, index, lines, how, k, terms, p);
-        or_in(&mut any, &part);
+    // The gate as it is written down.
+    fn gate(&self) -> &'a Gate
+        ensures { result.now ≡ gate_at self.now.circuit.now.netlist.gate self.now.k }
+    {
+        &self.circuit.netlist().gate[self.k as usize]
     }
-    any
-}
 
-// The AND of all pins of gate k, or one of them with the gate's own line.
-fn c_element_of<S: FaultSet>(
-    netlist: &Netlist,
-    index: &SiteIndex,
-    lines: &[Line<S>],
-    how: Reading,
-    k: u8,
-    mask: u8,
-) -> Tracks<S>
-    requires lawful { Lawful netlist.now }
-    requires rows { Readable S.member how (netlist.now.inputs + netlist.now.gates) lines.now }
-    requires gated { k < netlist.now.gates }
-    ensures { (n : ℕ) → answers S.member result n ≡ function_of by_tracks (pin_reads S.member netlist.now index.now.list lines.now n k) (held_at S.member lines.now n (netlist.now.inputs + k)) (gate_at netlist.now.gate k).pins (Function.CElement mask) }
-{
-    let own = held(lines, (netlist.inputs + k) as usize, how);
-    let mut all = fixed(&own, true);
-    let mut any = fixed(&own, false);
-    for j in 0..netlist.gate[k as usize].pins {
-        let part = literal_of(netlist, index, lines, how, k, j, mask);
-        and_in(&mut all, &part);
-        let mut kept = part;
-        and_in(&mut kept, &own);
-        or_in(&mut any, &kept);
+    // The line that it drives.
+    pub(crate) fn line(&self) -> u8
+        ensures { result ≡ self.now.circuit.now.netlist.inputs + self.now.k }
+    {
+        self.circuit.inputs() + self.k
     }
-    or_in(&mut all, &any);
-    all
-}
 
-// What the function of gate k gives.
-pub(crate) fn driven<S: FaultSet>(
-    netlist: &Netlist,
-    index: &SiteIndex,
-    lines: &[Line<S>],
-    how: Reading,
-    k: u8,
-) -> Tracks<S>
-    requires lawful { Lawful netlist.now }
-    requires rows { Readable S.member how (netlist.now.inputs + netlist.now.gates) lines.now }
-    requires gated { k < netlist.now.gates }
-    ensures { (n : ℕ) → answers S.member result n ≡ driven_by by_tracks (gate_at netlist.now.gate k) (pin_reads S.member netlist.now index.now.list lines.now n k) (held_at S.member lines.now n (netlist.now.inputs + k)) }
-{
-    match &netlist.gate[k as usize].function {
-        Function::Complex(terms) => sum_of(netlist, index, lines, how, k, terms),
-        Function::CElement { inverted } => {
-            c_element_of(netlist, index, lines, how, k, *inverted)
+    /// The tracks of its own line, as they are read.
+    pub fn own(&self) -> Tracks<S>
+        ensures { (n : ℕ) → answers S.member result n ≡ held_at S.member self.now.lines.now n (self.now.circuit.now.netlist.inputs + self.now.k) }
+    {
+        held(self.lines, self.line() as usize, self.how)
+    }
+
+    // What pin j reads.
+    #[tactic(auto, unfolding(crate::specs::Pins::pin_reads))]
+    fn pin(&self, j: u8) -> Tracks<S>
+        requires { j < (gate_at self.now.circuit.now.netlist.gate self.now.k).pins }
+        ensures { (n : ℕ) → answers S.member result n ≡ pin_reads S.member self.now.circuit.now.netlist self.now.index.now.list self.now.lines.now n self.now.k j }
+    {
+        let read = self.gate().pin[j as usize];
+        let mut tracks = held(self.lines, read as usize, self.how);
+        let site = Site::Pin {
+            line: self.line(),
+            pin: j,
+        };
+        stick(&mut tracks, self.index, site);
+        tracks
+    }
+
+    // Pin j, inverted where the mask has bit j.
+    #[tactic(auto, unfolding(circuit::specs::Gates::literal))]
+    fn literal(&self, j: u8, inverted: u8) -> Tracks<S>
+        requires { j < (gate_at self.now.circuit.now.netlist.gate self.now.k).pins }
+        ensures { (n : ℕ) → answers S.member result n ≡ literal by_tracks (pin_reads S.member self.now.circuit.now.netlist self.now.index.now.list self.now.lines.now n self.now.k) inverted j }
+    {
+        let pin = self.pin(j);
+        if has(inverted, j) {
+            pin.inverted()
+        } else {
+            pin
+        }
+    }
+
+    // The AND of the pins that a product uses.
+    fn product(&self, used: u8, inverted: u8) -> Tracks<S>
+        ensures { (n : ℕ) → answers S.member result n ≡ product by_tracks (pin_reads S.member self.now.circuit.now.netlist self.now.index.now.list self.now.lines.now n self.now.k) used inverted (gate_at self.now.circuit.now.netlist.gate self.now.k).pins }
+    {
+        let mut every = self.own().constant(true);
+        for j in 0..self.gate().pins {
+            if has(used, j) {
+                every.and_in(&self.literal(j, inverted));
+            }
+        }
+        every
+    }
+
+    // The OR of the products.
+    // Kept, no plainer: zip and take over the rows of both masks say no more than p up to the count.
+    fn sum(&self, terms: &Sum) -> Tracks<S>
+        requires { terms.now.products ≤ 8 }
+        ensures { (n : ℕ) → answers S.member result n ≡ sum by_tracks (pin_reads S.member self.now.circuit.now.netlist self.now.index.now.list self.now.lines.now n self.now.k) (gate_at self.now.circuit.now.netlist.gate self.now.k).pins terms.now terms.now.products }
+    {
+        let mut any = self.own().constant(false);
+        for p in 0..terms.products {
+            let used = terms.used[p as usize];
+            let inverted = terms.inverted[p as usize];
+            any.or_in(&self.product(used, inverted));
+        }
+        any
+    }
+
+    // The AND of all pins, or one of them with the gate's own line.
+    fn c_element(&self, inverted: u8) -> Tracks<S>
+        ensures { (n : ℕ) → answers S.member result n ≡ function_of by_tracks (pin_reads S.member self.now.circuit.now.netlist self.now.index.now.list self.now.lines.now n self.now.k) (held_at S.member self.now.lines.now n (self.now.circuit.now.netlist.inputs + self.now.k)) (gate_at self.now.circuit.now.netlist.gate self.now.k).pins (Function.CElement inverted) }
+    {
+        let own = self.own();
+        let mut every = own.constant(true);
+        let mut held = own.constant(false);
+        for j in 0..self.gate().pins {
+            let part = self.literal(j, inverted);
+            every.and_in(&part);
+            let mut kept = part;
+            kept.and_in(&own);
+            held.or_in(&kept);
+        }
+        every.or_in(&held);
+        every
+    }
+
+    // What its function gives.
+    // Kept, proof did not close: circuit's `drives` asks for the pins as a slice, and a table of 8 tracks of any kind of set may be too large for one (8 times a size below 2^63).
+    #[tactic(auto, unfolding(circuit::specs::Gates::driven))]
+    pub(crate) fn driven(&self) -> Tracks<S>
+        ensures { (n : ℕ) → answers S.member result n ≡ driven by_tracks (gate_at self.now.circuit.now.netlist.gate self.now.k) (pin_reads S.member self.now.circuit.now.netlist self.now.index.now.list self.now.lines.now n self.now.k) (held_at S.member self.now.lines.now n (self.now.circuit.now.netlist.inputs + self.now.k)) }
+    {
+        match &self.gate().function {
+            Function::Complex(terms) => self.sum(terms),
+            Function::CElement { inverted } => self.c_element(*inverted),
         }
     }
 }

@@ -7,35 +7,26 @@ ghost use Rattle.switching.specs.Chips.{chip};
 ghost use Rattle.switching.specs.Phases.{target as target_in};
 ghost use Rattle.track.specs.Answers.{answers, goods};
 ghost use Rattle.site_index.specs.Sites.{fault_of};
-ghost use Rattle.step.specs.Rows.{reading, good_reading, Readable};
+ghost use Rattle.step.specs.Rows.{reading, good_reading};
 
-use crate::gate::driven;
-use crate::rows::{Reading, stick};
-use circuit::circuit::Circuit;
+use crate::gate::GateView;
+use crate::rows::stick;
 use circuit::site::Site;
 use fault_set::set::FaultSet;
 use site_index::SiteIndex;
-use track::pairs::fixed;
-use track::table::{Line, Tracks};
+use ternary::signal::Signal;
+use track::table::Tracks;
 
-/// What gate k's line is to be: its function's value, or the value at which it is stuck.
-/// Public only for the layers above, which go through the gates of a circuit and have a row for each line.
-pub fn target_of<S: FaultSet>(
-    circuit: &Circuit,
-    index: &SiteIndex,
-    lines: &[Line<S>],
-    how: Reading,
-    k: u8,
-) -> Tracks<S>
-    requires rows { Readable S.member how (circuit.now.netlist.inputs + circuit.now.netlist.gates) lines.now }
-    requires gated { k < circuit.now.netlist.gates }
-    ensures faulty { (n : ℕ) → answers S.member result n ≡ tracks_of (target_in (chip circuit.now.netlist (fault_of index.now.list n)) (reading S.member circuit.now.netlist.inputs lines.now n) k) }
-    ensures good { goods result ≡ tracks_of (target_in (chip circuit.now.netlist None) (good_reading circuit.now.netlist.inputs lines.now) k) }
-{
-    let netlist = circuit.netlist();
-    let mut tracks = driven(netlist, index, lines, how, k);
-    stick(&mut tracks, index, Site::Stem(netlist.inputs + k));
-    tracks
+impl<S: FaultSet> GateView<'_, S> {
+    /// What its line is to be: its function's value, or the value at which it is stuck.
+    pub fn target_of(&self) -> Tracks<S>
+        ensures faulty { (n : ℕ) → answers S.member result n ≡ tracks_of (target_in (chip self.now.circuit.now.netlist (fault_of self.now.index.now.list n)) (reading S.member self.now.circuit.now.netlist.inputs self.now.lines.now n) self.now.k) }
+        ensures good { goods result ≡ tracks_of (target_in (chip self.now.circuit.now.netlist None) (good_reading self.now.circuit.now.netlist.inputs self.now.lines.now) self.now.k) }
+    {
+        let mut tracks = self.driven();
+        stick(&mut tracks, self.index, Site::Stem(self.line()));
+        tracks
+    }
 }
 
 /// A line that is to be at 0 or 1, where it is not stuck; `like` only lends sets to begin with.
@@ -45,7 +36,7 @@ pub fn line_of<S: FaultSet>(index: &SiteIndex, like: &Tracks<S>, i: u8, bit: boo
     ensures faulty { (n : ℕ) → answers S.member result n ≡ tracks_of (seen of (stuck_at (fault_of index.now.list n) (Site.Stem i)) (of bit)) }
     ensures good { goods result ≡ tracks_of (of bit) }
 {
-    let mut tracks = fixed(like, bit);
+    let mut tracks = like.constant(bit);
     stick(&mut tracks, index, Site::Stem(i));
     tracks
 }

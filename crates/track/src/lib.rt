@@ -4,4 +4,5 @@
 pub mod pairs;
 pub mod rules;
 pub mod same;
+pub mod signal;
 pub mod table;

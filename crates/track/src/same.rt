@@ -5,21 +5,21 @@ ghost use Rattle.track.specs.Answers.{answer, answers};
 use crate::table::{Track, Tracks};
 use fault_set::set::FaultSet;
 
-/// Whether two tracks have the same answer in every circuit.
-pub fn alike<S: FaultSet>(a: &Track<S>, b: &Track<S>) -> bool
-    ensures { Decides result ((n : ℕ) → answer S.member a.now n ≡ answer S.member b.now n) }
-{
-    if a.good != b.good {
-        return false;
+impl<S: FaultSet> Track<S> {
+    /// Whether two tracks have the same answer in every circuit.
+    // Kept, no plainer: a derived `==` would ask how the sets lie, and equal members may lie in two ways.
+    pub fn same(&self, other: &Track<S>) -> bool
+        ensures { Decides result ((n : ℕ) → answer S.member self.now n ≡ answer S.member other.now n) }
+    {
+        self.good == other.good && self.differ.same(&other.differ)
     }
-    a.differ.same(&b.differ)
 }
 
-/// Whether every circuit has the same two answers in both.
-pub fn same_tracks<S: FaultSet>(a: &Tracks<S>, b: &Tracks<S>) -> bool
-    ensures { Decides result ((n : ℕ) → answers S.member a.now n ≡ answers S.member b.now n) }
-{
-    let one = alike(&a.one, &b.one);
-    let zero = alike(&a.zero, &b.zero);
-    one && zero
+impl<S: FaultSet> Tracks<S> {
+    /// Whether every circuit has the same two answers in both.
+    pub fn same(&self, other: &Tracks<S>) -> bool
+        ensures { Decides result ((n : ℕ) → answers S.member self.now n ≡ answers S.member other.now n) }
+    {
+        self.one.same(&other.one) && self.zero.same(&other.zero)
+    }
 }

@@ -17,6 +17,6 @@ returns g c =
     record {
       rows = λ d. ap₂ (λ (x y : Line g.row.S.Denot). set rows c.args.i (record { held = x.draft; draft = y.draft }))
           (get_or_default rows c.args.i c.index-lines-i-2.result d here) (get_or_default rows c.args.i c.index-lines-i-3.result d here);
-      same = Decides-like c.same_tracks-same.result
-          (λ h n. stored n ∙ h n ∙ sym (drafted n)) (λ h n. sym (stored n) ∙ h n ∙ drafted n) c.same_tracks-same.ensures;
+      same = Decides-like c.same-same.result
+          (λ h n. stored n ∙ h n ∙ sym (drafted n)) (λ h n. sym (stored n) ∙ h n ∙ drafted n) c.same-same.ensures;
     }

@@ -1,12 +1,13 @@
-use Rattle.std.proofs.Common.{sym, ◌∙◌, arith}
-use Rattle.site_index.proofs.Tables.{right_none, right_more, right_still}
+use Rattle.std.proofs.Common.{◌≡◌, ℕ, subst, arith}
+use Rattle.site_index.proofs.Tables.{RightTables, right_none, tables}
 use Rattle.site_index.proofs.SiteIndex.of.Goals as goal
 
 pub loop-n-init : goal.loop-n-init
 loop-n-init c = right_none c.args.list.now
 
-pub loop-n-preserved-in-Some : goal.loop-n-preserved-in-Some
-loop-n-preserved-in-Some c = right_more _ _ _ _ c.loop-n-test.true (omega arith) c.loop-n.invariant c.in-Some.place (sym c.fault_place.ensures ∙ c.in-Some.is)
-
-pub loop-n-preserved : goal.loop-n-preserved
-loop-n-preserved c = right_still _ _ _ _ c.loop-n-test.true (omega arith) c.loop-n.invariant (sym c.fault_place.ensures ∙ c.in_default.is)
+pub invariant_of-result : goal.invariant_of-result
+invariant_of-result c =
+    let list = c.args.list.now in
+    let from : c.loop-n.n ≡ 0 = omega arith in
+    let t = subst (λ (i : ℕ). RightTables list i c.loop-n.first c.loop-n.next) from (tables list _ _ _ c.loop-n.invariant) in
+    record { firsts = t.firsts; nexts = t.nexts }

@@ -3,7 +3,7 @@ use Rattle.track.specs.declared.table.Line.{Line}
 use Rattle.track.specs.Answers.{answer, answers, whole, value, meaning}
 use Rattle.step.specs.Rows.{unknown}
 use Rattle.step.proofs.Looks.{look_at}
-use Rattle.step.proofs.Looks.{value_whole, differing}
+use Rattle.step.proofs.Looks.{value_whole}
 use Rattle.step.proofs.ask.value_at.Goals as goal
 
 pub returns : goal.returns
@@ -11,6 +11,6 @@ returns g c =
     let m = g.S.FaultSet.member in
     let row = get_or c.args.lines.now c.args.i c.index-lines-i.result in
     c.meant.ensures
-    ∙ ap₂ meaning (differing row.held.one.good (m row.held.one.differ c.args.n) c.has.result c.has.ensures) (differing row.held.zero.good (m row.held.zero.differ c.args.n) c.has-2.result c.has-2.ensures)
+    ∙ ap₂ meaning c.answer.ensures c.answer-2.ensures
     ∙ value_whole (answer m row.held.one c.args.n) (answer m row.held.zero c.args.n)
     ∙ sym (ap value (look_at (λ (x : Line g.row.S.Denot). whole (answers m x.held c.args.n)) unknown c.args.lines.now c.args.i c.index-lines-i.result (omega arith)))

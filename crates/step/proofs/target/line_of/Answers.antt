@@ -15,6 +15,6 @@ returns-clause-good g c =
     let m = g.S.FaultSet.member in
     sym (answers_good m g.met.S.FaultSet.within 192 (omega arith) c.stick.new.tracks)
     ∙ c.stick.ensures 192
-    ∙ ap (λ (f : Option Fault). seen by_tracks.const (stuck_at f (Stem c.args.i)) (answers m c.fixed-tracks.result 192)) (fault_past c.args.index.now.list 192 (omega arith))
-    ∙ c.fixed-tracks.ensures 192
+    ∙ ap (λ (f : Option Fault). seen by_tracks.const (stuck_at f (Stem c.args.i)) (answers m c.constant-tracks.result 192)) (fault_past c.args.index.now.list 192 (omega arith))
+    ∙ c.constant-tracks.ensures 192
     ∙ tracks_kept.const c.args.bit

@@ -1,4 +1,3 @@
-pub mod Filled
 pub mod Parts
 pub mod Kept
 pub mod Resting

@@ -3,7 +3,6 @@ ghost use Rattle.std.specs.Prelude.{◌≡◌, ℕ, ◌+◌, ◌<◌, false, sli
 ghost use Rattle.circuit.specs.Netlists.{gate_at, pins_of, driven_by, restless, Lawful};
 
 use crate::drive::drives;
-use crate::gate::Gate;
 use crate::netlist::Netlist;
 
 /// A circuit but for its start: counts in range, lawful gates, and outputs that are gate lines and rise.
@@ -11,18 +10,6 @@ use crate::netlist::Netlist;
 pub struct Design {
     netlist: Netlist,
     ghost lawful: { Lawful netlist },
-}
-
-// What the pins of a gate see at the start.
-fn pins_at_start(gate: &Gate, start: &[bool; 48]) -> [bool; 8]
-    ensures { (j : ℕ) → j < 8 → slice_index_or result j false ≡ pins_of gate.now start.now j }
-{
-    let mut pins = [false; 8];
-    // Kept, proof did not close: of `map` over an array nothing is known but single calls, and not that its closure still reads the same start.
-    for (j, line) in gate.pin.iter().enumerate() {
-        pins[j] = start.get(*line as usize).copied().unwrap_or(false);
-    }
-    pins
 }
 
 impl Design {
@@ -49,9 +36,11 @@ impl Design {
     {
         let netlist = &self.netlist;
         let gate = &netlist.gate[k as usize];
-        let pins = pins_at_start(gate, &netlist.start);
         let own = netlist.start[(netlist.inputs + k) as usize];
-        drives(&gate.function, &pins[..gate.pins as usize], &own)
+        drives(gate, &own, |j| {
+            let line = gate.pin[j as usize];
+            netlist.start.get(line as usize).copied().unwrap_or(false)
+        })
     }
 
     // The lowest line that is not at rest at the start.

@@ -1,6 +1,6 @@
 // A netlist that is lawful but for its start, and whether its start is at rest.
-ghost use Rattle.std.specs.Prelude.{◌≡◌, ℕ, ◌+◌, ◌<◌, false, slice_index_or};
-ghost use Rattle.circuit.specs.Netlists.{gate_at, pins_of, driven_by, restless, Lawful};
+ghost use Rattle.std.specs.Prelude.{◌≡◌, ℕ, ◌+◌, ◌<◌, false, Decides, slice_index_or};
+ghost use Rattle.circuit.specs.Netlists.{gate_at, pins_of, driven_by, restless, Rests, Lawful};
 
 use crate::drive::drives;
 use crate::netlist::Netlist;
@@ -43,17 +43,21 @@ impl Design {
         })
     }
 
+    // Whether gate k is at rest at the start.
+    fn rests(&self, k: u8) -> bool
+        requires { k < self.now.netlist.gates }
+        ensures { Decides result (Rests self.now.netlist.inputs self.now.netlist.gate self.now.netlist.start k) }
+    {
+        let line = self.netlist.inputs + k;
+        self.drives_at_start(k) == self.netlist.start[line as usize]
+    }
+
     // The lowest line that is not at rest at the start.
     pub(crate) fn first_restless(&self) -> Option<u8>
         ensures { result ≡ restless self.now.netlist }
     {
-        let netlist = &self.netlist;
-        for k in 0..netlist.gates {
-            let line = netlist.inputs + k;
-            if self.drives_at_start(k) != netlist.start[line as usize] {
-                return Some(line);
-            }
-        }
-        None
+        (0..self.netlist.gates)
+            .find(|k| !self.rests(*k))
+            .map(|k| self.netlist.inputs + k)
     }
 }

@@ -1,5 +1,3 @@
-pub mod Filled
-pub mod Parts
 pub mod Kept
 pub mod Resting
 pub mod Trimmed

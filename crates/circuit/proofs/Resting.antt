@@ -1,6 +1,5 @@
 -- Whether a gate is at rest, seen on the values of the lines.
-use Rattle.std.proofs.Common.{◌≡◌, ℕ, ◌+◌, ◌<◌, Bool, true, false, cond, not, List, get_or, None, sym, ap, ◌∙◌, true≢false, arith}
-use mathlib.Core.Bool.{false≢true}
+use Rattle.std.proofs.Common.{◌≡◌, ℕ, ◌+◌, ◌<◌, false, List, get_or, None, sym, ap, ◌∙◌, arith}
 use Rattle.ternary.specs.declared.Value.{Value}
 use Rattle.ternary.specs.Logics.{three_valued}
 use Rattle.ternary.specs.Values.{of}
@@ -10,21 +9,6 @@ use Rattle.circuit.specs.declared.netlist.Netlist.{Netlist}
 use Rattle.circuit.specs.Netlists.{gate_at, pin_at, driven_by, Rests, Lawful}
 use Rattle.circuit.specs.Chips.{value_at, driven_in}
 use Rattle.circuit.proofs.Kept.{driven_in_keeps}
-
--- what a comparison tells
-apart : {A : Type 0} {a b : A} (x : Bool) → cond x (a ≡ b) (a ≡ b → ⊥) → not x ≡ true → a ≡ b → ⊥
-apart true h e = absurd (false≢true e)
-apart false h e = h
-
-alike : {A : Type 0} {a b : A} (x : Bool) → cond x (a ≡ b) (a ≡ b → ⊥) → not x ≡ false → a ≡ b
-alike true h e = h
-alike false h e = absurd (true≢false e)
-
-pub told_apart : {A : Type 0} {a b : A} {r : Bool} → ((x : Bool) × cond x (a ≡ b) (a ≡ b → ⊥) × (r ≡ not x)) → r ≡ true → a ≡ b → ⊥
-told_apart t e = apart t.0 t.1 (sym t.2 ∙ e)
-
-pub told_same : {A : Type 0} {a b : A} {r : Bool} → ((x : Bool) × cond x (a ≡ b) (a ≡ b → ⊥) × (r ≡ not x)) → r ≡ false → a ≡ b
-told_same t e = alike t.0 t.1 (sym t.2 ∙ e)
 
 module _ (n : Netlist) (law : Lawful n) (values : List Value) (same : (i : ℕ) → i < 48 → value_at values i ≡ of (get_or n.start i false)) (k : ℕ) (lt : k < n.gates) where
   exact : of (driven_by (gate_at n.gate k) n.start (get_or n.start (n.inputs + k) false)) ≡ driven_in three_valued n None (value_at values) (value_at values (n.inputs + k)) k

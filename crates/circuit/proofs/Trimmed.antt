@@ -1,5 +1,5 @@
 -- A netlist and its trimmed form say the same: what is lawful, what is driven, and what is at rest.
-use Rattle.std.proofs.Common.{◌≡◌, ℕ, zero, suc, ◌+◌, ◌-◌, ◌<◌, ◌≤◌, Bool, true, false, cond, ◌&&◌, ltb, List, [], ◌∷◌, map, get_or, take, Some, None, Option, refl, ap, ◌∙◌, subst, inl, inr, true≢false, arith}
+use Rattle.std.proofs.Common.{◌≡◌, ℕ, zero, suc, ◌+◌, ◌-◌, ◌<◌, ◌≤◌, Bool, true, false, cond, ◌&&◌, ltb, List, [], ◌∷◌, map, get_or, take, Some, None, Option, MatchOption, option_map, sym, refl, ap, ◌∙◌, add-one, subst, inl, inr, true≢false, arith}
 use mathlib.Core.Bool.{false≢true}
 use Rattle.std.proofs.lemmas.List.{get_or-take}
 use Rattle.std.proofs.lemmas.Bool.{cases_eq, leb-true, ltb-true}
@@ -78,7 +78,7 @@ lawful_from_trimmed n law =
 
 -- What a gate drives depends on its pins only, and on the masks that it needs.
 module _ {A : Type 0} (L : Logic A) where
-  pub literal_same : (pin pin' : ℕ → A) (inverted j : ℕ) → pin j ≡ pin' j → literal L pin inverted j ≡ literal L pin' inverted j
+  literal_same : (pin pin' : ℕ → A) (inverted j : ℕ) → pin j ≡ pin' j → literal L pin inverted j ≡ literal L pin' inverted j
   unfolding literal
   literal_same pin pin' inverted j e = ap (λ (x : A). cond (bit inverted j) (L.invert x) x) e
 
@@ -117,7 +117,7 @@ module _ {A : Type 0} (L : Logic A) where
       let f = hold_same pin pin' own inverted pins h in
       cc
 
-  pub driven_same : (g : Gate) (pin pin' : ℕ → A) (own : A) → ((j : ℕ) → j < g.pins → pin j ≡ pin' j) → driven L g pin own ≡ driven L g pin' own
+  driven_same : (g : Gate) (pin pin' : ℕ → A) (own : A) → ((j : ℕ) → j < g.pins → pin j ≡ pin' j) → driven L g pin own ≡ driven L g pin' own
   unfolding driven
   driven_same g pin pin' own h = function_same pin pin' own g.pins g.function h
 
@@ -165,11 +165,18 @@ found_none false true x y h = absurd (let z : ◌≡◌ {A = ℕ} 0 1 = cc in om
 found_none false false x y h = (refl, h)
 
 module _ (inputs : ℕ) (gs : List Gate) (values : List Bool) where
-  pub restless_more : (n k : ℕ) → k < n → Rests inputs gs values k → restless_from inputs gs values k (n - k) ≡ restless_from inputs gs values (k + 1) (n - (k + 1))
+  restless_more : (n k : ℕ) → k < n → Rests inputs gs values k → restless_from inputs gs values k (n - k) ≡ restless_from inputs gs values (k + 1) (n - (k + 1))
   restless_more n k h r = let e : n - k ≡ suc (n - (k + 1)) = omega arith in rw e (settled _ _ _ _ r)
 
-  pub restless_here : (n k : ℕ) → k < n → (Rests inputs gs values k → ⊥) → restless_from inputs gs values k (n - k) ≡ Some (inputs + k)
+  restless_here : (n k : ℕ) → k < n → (Rests inputs gs values k → ⊥) → restless_from inputs gs values k (n - k) ≡ Some (inputs + k)
   restless_here n k h r = let e : n - k ≡ suc (n - (k + 1)) = omega arith in rw e (unsettled _ _ _ _ r)
+
+  -- gates at rest are passed
+  rested : (n k : ℕ) → k ≤ n → ((i : ℕ) → i < k → Rests inputs gs values i) → restless_from inputs gs values 0 n ≡ restless_from inputs gs values k (n - k)
+  rested n zero h r = ap (restless_from inputs gs values 0) (omega arith)
+  rested n (suc k) h r =
+      rested n k (omega arith) (λ i l. r i (omega arith)) ∙ restless_more n k (omega arith) (r k (omega arith))
+      ∙ ap (λ (j : ℕ). restless_from inputs gs values j (n - j)) (add-one k)
 
   rests_from : (k left : ℕ) → restless_from inputs gs values k left ≡ None → (i : ℕ) → k ≤ i → i < k + left → Rests inputs gs values i
   rests_from k zero h i a b = absurd (omega arith)
@@ -186,6 +193,15 @@ rest_from_restless n h k l = rests_from n.inputs n.gate n.start 0 n.gates h k (o
 
 pub restless_from_rest : (n : Netlist) → AtRest n → restless n ≡ None
 restless_from_rest n h = none_from n.inputs n.gate n.start 0 n.gates (λ i a b. h i (omega arith))
+
+-- the lowest line that is not at rest is that of the first gate that is not
+pub restless_found : (n : Netlist) (r : Option ℕ)
+    → MatchOption r ((k : ℕ) → 0 ≤ k → k < n.gates → Rests n.inputs n.gate n.start k)
+    (λ k. (0 ≤ k) × (k < n.gates) × (Rests n.inputs n.gate n.start k → ⊥) × ((i : ℕ) → 0 ≤ i → i < k → Rests n.inputs n.gate n.start i))
+    → option_map (λ k. n.inputs + k) r ≡ restless n
+restless_found n None rest = sym (restless_from_rest n (λ k l. rest k (omega arith) l))
+restless_found n (Some k) (low, high, here, rest) =
+    sym (rested n.inputs n.gate n.start n.gates k (omega arith) (λ i l. rest i (omega arith) l) ∙ restless_here n.inputs n.gate n.start n.gates k high here)
 
 restless_trimmed_from : (inputs n : ℕ) (gs : List Gate) (values : List Bool) → ((k : ℕ) → k < n → LawfulGate (inputs + n) (gate_at gs k)) → (k left : ℕ) → k + left ≤ n → restless_from inputs (map trimmed_gate (take n gs)) (take (inputs + n) values) k left ≡ restless_from inputs gs values k left
 restless_trimmed_from inputs n gs values law k zero h = refl

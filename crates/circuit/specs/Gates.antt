@@ -1,5 +1,5 @@
 -- What a gate computes, over any logic: its pins' values and the value of its own line give the value that it drives.
-use Rattle.std.specs.Prelude.{ℕ, zero, suc, ◌-◌, ◌/◌, ◌%◌, ◌^◌, Bool, true, false, cond, List, ◌==◌, slice_index, slice_index_or}
+use Rattle.std.specs.Prelude.{◌≡◌, ℕ, zero, suc, ◌-◌, ◌/◌, ◌%◌, ◌^◌, ◌<◌, Bool, true, false, cond, ◌==◌, slice_index}
 pub use Rattle.ternary.specs.Logics.{Logic, two_valued}
 use Rattle.circuit.specs.declared.gate.Sum.{Sum}
 use Rattle.circuit.specs.declared.gate.Function.{Function}
@@ -46,6 +46,10 @@ function_of L pin own pins (CElement inverted) = L.either (all L pin inverted pi
 unfoldable pub driven : {A : Type 0} → Logic A → Gate → (ℕ → A) → A → A
 driven L g pin own = function_of L pin own g.pins g.function
 
--- what the signal at place j of a row means in circuit n; past the row's end, what `end` means
-abbrev pub meant : {T A : Type 0} → (T → ℕ → A) → T → List T → ℕ → ℕ → A
-meant meaning end row n j = meaning (slice_index_or row j end) n
+-- each pin of a gate can be read, where `can j` says so of pin j
+abbrev pub CanRead : (ℕ → Type 0) → Gate → Type 0
+CanRead can g = (j : ℕ) → j < g.pins → can j
+
+-- in circuit n the pins of a gate see these values, where reading pin j gives a signal r with `read j r`
+abbrev pub Sees : {T A : Type 0} → (T → ℕ → A) → ℕ → (ℕ → T → Type 0) → Gate → (ℕ → A) → Type 0
+Sees {T} meaning n read g pin = (j : ℕ) → j < g.pins → (r : T) → read j r → meaning r n ≡ pin j

@@ -58,30 +58,17 @@ impl Circuit {
         }
     }
 
-    // What the pins of gate k see.
-    fn pins_seen(&self, fault: Option<Fault>, lines: &[Value; 48], k: u8) -> [Value; 8]
-        requires { k < self.now.netlist.gates }
-        ensures { (j : ℕ) → j < (gate_at self.now.netlist.gate k).pins → value_at result j ≡ pin_sees three_valued self.now.netlist fault (value_at lines.now) k j }
-    {
-        let netlist = &self.netlist;
-        let gate = &netlist.gate[k as usize];
-        let line = netlist.inputs + k;
-        let mut pins = [Value::Zero; 8];
-        for j in 0..gate.pins {
-            let read = lines[gate.pin[j as usize] as usize];
-            pins[j as usize] = seen_at(fault, Site::Pin { line, pin: j }, read);
-        }
-        pins
-    }
-
     // The value of gate k's function when its own line has `own`.
     fn drives_beside(&self, fault: Option<Fault>, lines: &[Value; 48], own: Value, k: u8) -> Value
         requires { k < self.now.netlist.gates }
         ensures { result ≡ driven_in three_valued self.now.netlist fault (value_at lines.now) own k }
     {
         let gate = &self.netlist.gate[k as usize];
-        let pins = self.pins_seen(fault, lines, k);
-        drives(&gate.function, &pins[..gate.pins as usize], &own)
+        let line = self.netlist.inputs + k;
+        drives(gate, &own, |pin| {
+            let read = lines[gate.pin[pin as usize] as usize];
+            seen_at(fault, Site::Pin { line, pin }, read)
+        })
     }
 
     /// The value of gate k's function in the chip with this fault, or with none, when the lines have these values.

@@ -1,9 +1,8 @@
 // A netlist that is lawful but for its start, and whether its start is at rest.
-ghost use Rattle.std.specs.Prelude.{◌≡◌, ℕ, ◌+◌, ◌<◌, false, slice_index_or};
-ghost use Rattle.circuit.specs.Netlists.{gate_at, pins_of, driven_by, restless, Lawful};
+ghost use Rattle.std.specs.Prelude.{◌≡◌, ℕ, ◌+◌, ◌<◌, false, Decides, slice_index_or};
+ghost use Rattle.circuit.specs.Netlists.{gate_at, pins_of, driven_by, restless, Rests, Lawful};
 
 use crate::drive::drives;
-use crate::gate::Gate;
 use crate::netlist::Netlist;
 
 /// A circuit but for its start: counts in range, lawful gates, and outputs that are gate lines and rise.
@@ -11,18 +10,6 @@ use crate::netlist::Netlist;
 pub struct Design {
     netlist: Netlist,
     ghost lawful: { Lawful netlist },
-}
-
-// What the pins of a gate see at the start.
-fn pins_at_start(gate: &Gate, start: &[bool; 48]) -> [bool; 8]
-    ensures { (j : ℕ) → j < 8 → slice_index_or result j false ≡ pins_of gate.now start.now j }
-{
-    let mut pins = [false; 8];
-    // Kept, proof did not close: of `map` over an array nothing is known but single calls, and not that its closure still reads the same start.
-    for (j, line) in gate.pin.iter().enumerate() {
-        pins[j] = start.get(*line as usize).copied().unwrap_or(false);
-    }
-    pins
 }
 
 impl Design {
@@ -49,22 +36,28 @@ impl Design {
     {
         let netlist = &self.netlist;
         let gate = &netlist.gate[k as usize];
-        let pins = pins_at_start(gate, &netlist.start);
         let own = netlist.start[(netlist.inputs + k) as usize];
-        drives(&gate.function, &pins[..gate.pins as usize], &own)
+        drives(gate, &own, |j| {
+            let line = gate.pin[j as usize];
+            netlist.start.get(line as usize).copied().unwrap_or(false)
+        })
+    }
+
+    // Whether gate k is at rest at the start.
+    fn rests(&self, k: u8) -> bool
+        requires { k < self.now.netlist.gates }
+        ensures { Decides result (Rests self.now.netlist.inputs self.now.netlist.gate self.now.netlist.start k) }
+    {
+        let line = self.netlist.inputs + k;
+        self.drives_at_start(k) == self.netlist.start[line as usize]
     }
 
     // The lowest line that is not at rest at the start.
     pub(crate) fn first_restless(&self) -> Option<u8>
         ensures { result ≡ restless self.now.netlist }
     {
-        let netlist = &self.netlist;
-        for k in 0..netlist.gates {
-            let line = netlist.inputs + k;
-            if self.drives_at_start(k) != netlist.start[line as usize] {
-                return Some(line);
-            }
-        }
-        None
+        (0..self.netlist.gates)
+            .find(|k| !self.rests(*k))
+            .map(|k| self.netlist.inputs + k)
     }
 }

@@ -1,25 +1,12 @@
-use Rattle.std.proofs.Common.{◌≡◌, Bool, true, false, not, sym, refl, ◌∙◌, true≢false, arith}
-use mathlib.Core.Bool.{beq, false≢true}
-use Rattle.circuit.proofs.Trimmed.{restless_more, restless_here}
+use Rattle.std.proofs.Common.{◌≡◌, ℕ, ◌+◌, option_map, ◌∙◌, rules}
+use Rattle.std.proofs.lemmas.Iterator.{first_from_Range}
+use Rattle.circuit.specs.Netlists.{Rests}
+use Rattle.circuit.proofs.Trimmed.{restless_found}
 use Rattle.circuit.proofs.design.Design.first_restless.Goals as goal
 
-differ : (r v : Bool) → not (beq r v) ≡ true → v ≡ r → ⊥
-differ true true h e = false≢true h
-differ true false h e = false≢true e
-differ false true h e = true≢false e
-differ false false h e = false≢true h
-
-agree : (r v : Bool) → not (beq r v) ≡ false → v ≡ r
-agree true true h = refl
-agree true false h = absurd (true≢false h)
-agree false true h = absurd (true≢false h)
-agree false false h = refl
-
-pub returns-then-drives_at_start-netlist : goal.returns-then-drives_at_start-netlist
-returns-then-drives_at_start-netlist c =
-    sym (restless_here _ _ _ c.args.self.now.netlist.gates c.loop-k.k (omega arith) (λ e. differ c.drives_at_start.result _ c.if-drives_at_start-netlist.true (e ∙ sym c.drives_at_start.ensures))) ∙ c.loop-k.invariant
-
-pub loop-k-preserved : goal.loop-k-preserved
-loop-k-preserved c =
-    let rests = agree c.drives_at_start.result _ c.if-drives_at_start-netlist.false ∙ c.drives_at_start.ensures in
-    sym (restless_more _ _ _ c.args.self.now.netlist.gates c.loop-k.k (omega arith) rests) ∙ c.loop-k.invariant
+pub returns : goal.returns
+returns c =
+    let netlist = c.args.self.now.netlist in
+    let rests : ℕ → Type 0 = Rests netlist.inputs netlist.gate netlist.start in
+    let mapped : c.map.result ≡ option_map (λ k. netlist.inputs + k) c.find.result = search rules in
+    mapped ∙ restless_found netlist c.find.result (first_from_Range _ _ _ _ (λ k. rests k → ⊥) rests c.find.ensures.ran (λ k q called. search rules) (λ k q called. search rules))

@@ -1,7 +1,7 @@
 use Rattle.std.proofs.Common.{◌≡◌, ℕ, ◌/◌, ◌%◌, ◌^◌, ◌≤◌, ◌==◌, sym, ap, ◌∙◌, arith, le-ltb}
 use Rattle.std.proofs.Math.Nat.{div-eq_of_lt}
 use Rattle.std.proofs.Math.Pow.{pow_mono}
-use Rattle.circuit.proofs.drive.bit_at.Goals as goal
+use Rattle.circuit.proofs.drive.has.Goals as goal
 
 pub returns-else-j-lt8 : goal.returns-else-j-lt8
 returns-else-j-lt8 c =

@@ -9,25 +9,25 @@ use Rattle.phases.specs.Passes.{numbered, next_of}
 use Rattle.phases.proofs.Gates.{Drafted, drafts_begin, none_drafted, one_drafted}
 use Rattle.step.specs.declared.rows.Reading.TheVariants.{Whole}
 use Rattle.phases.proofs.Rows.{reading_same, readable_same}
-use Rattle.phases.proofs.drafts.write_drafts.Goals as goal
-use Rattle.phases.proofs.drafts.write_drafts.Goals.{then-read_by, else-read_by}
+use Rattle.phases.proofs.pass.Pass.write_drafts.Goals as goal
+use Rattle.phases.proofs.pass.Pass.write_drafts.Goals.{then-read_by, else-read_by}
 
 pub loop-k-init : goal.loop-k-init
-loop-k-init g c = drafts_begin g.S.FaultSet.member c.inputs-inputs.result (read_by (changed_at c.args.changes.now.line) c.args.circuit.now.netlist) c.args.lines.now _
+loop-k-init g c = drafts_begin g.S.FaultSet.member c.inputs-inputs.result (read_by (changed_at c.args.self.now.changes.now.line) c.args.self.now.circuit.now.netlist) c.args.lines.now _
 
 pub loop-k-preserved : goal.loop-k-preserved
 loop-k-preserved g c =
     let m = g.S.FaultSet.member in
     let P = c.inputs-inputs.result in
-    let read = read_by (changed_at c.args.changes.now.line) c.args.circuit.now.netlist in
+    let read = read_by (changed_at c.args.self.now.changes.now.line) c.args.self.now.circuit.now.netlist in
     let first = c.args.lines.now in
-    let v = next_of m c.args.circuit.now c.args.index.now.list c.args.phase first in
-    let same = reading_same m c.args.circuit.now.netlist.inputs c.loop-k.lines first c.loop-k.invariant.held in
+    let v = next_of m c.args.self.now.circuit.now c.args.self.now.index.now.list c.args.self.now.phase first in
+    let same = reading_same m c.args.self.now.circuit.now.netlist.inputs c.loop-k.lines first c.loop-k.invariant.held in
     elim c.if-read_by.branch [
       | then-read_by w ↦ subst (λ (ls : List (Line g.row.S.Denot)). Drafted m P read first v (c.loop-k.k + 1) ls) (sym w.lines-is)
           (one_drafted m P read first v c.loop-k.k c.loop-k.lines c.loop-k.invariant w.put_draft.new.lines w.next_of-next.result
           (sym c.read_by.ensures ∙ w.if-read_by.true) (omega (arith, c.inputs-inputs.ensures, c.gates-k-end.ensures, c.requires.rows.room)) w.put_draft.ensures
-          (λ n. w.next_of-next.ensures n ∙ ap (λ (A : Lines Value). tracks (taken c.args.phase (A.gate c.loop-k.k) (target (numbered c.args.circuit.now c.args.index.now.list n) A c.loop-k.k))) (same n)))
+          (λ n. w.next_of-next.ensures n ∙ ap (λ (A : Lines Value). tracks (taken c.args.self.now.phase (A.gate c.loop-k.k) (target (numbered c.args.self.now.circuit.now c.args.self.now.index.now.list n) A c.loop-k.k))) (same n)))
       | else-read_by w ↦ subst (λ (ls : List (Line g.row.S.Denot)). Drafted m P read first v (c.loop-k.k + 1) ls) (sym w.lines-is)
           (none_drafted m P read first v c.loop-k.k c.loop-k.lines c.loop-k.invariant (sym c.read_by.ensures ∙ w.if-read_by.false))
     ]
@@ -41,8 +41,8 @@ next_of-next-requires g c = record {
 pub returns : goal.returns
 returns g c =
     let m = g.S.FaultSet.member in
-    let read = read_by (changed_at c.args.changes.now.line) c.args.circuit.now.netlist in
-    let v = next_of m c.args.circuit.now c.args.index.now.list c.args.phase c.args.lines.now in
-    let e : c.loop-k.k ≡ c.args.circuit.now.netlist.gates = omega (arith, c.gates-k-end.ensures) in
+    let read = read_by (changed_at c.args.self.now.changes.now.line) c.args.self.now.circuit.now.netlist in
+    let v = next_of m c.args.self.now.circuit.now c.args.self.now.index.now.list c.args.self.now.phase c.args.lines.now in
+    let e : c.loop-k.k ≡ c.args.self.now.circuit.now.netlist.gates = omega (arith, c.gates-k-end.ensures) in
     let h = subst₂ (λ (P k : ℕ). Drafted m P read c.args.lines.now v k c.loop-k.lines) c.inputs-inputs.ensures e c.loop-k.invariant in
     record { held = h.held; elsewhere = h.elsewhere; drafts = h.drafts }

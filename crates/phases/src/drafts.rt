@@ -15,6 +15,7 @@ use track::table::{Line, Tracks};
 
 impl<'a> Pass<'a> {
     // What it gives gate k.
+    #[tactic(auto, using(crate::proofs::Rows::spread_taken, crate::proofs::Rows::settle_taken))]
     fn next_of<S: FaultSet>(&self, lines: &[Line<S>], k: u8) -> Tracks<S>
         requires rows { Readable S.member Reading.Whole (self.now.circuit.now.netlist.inputs + self.now.circuit.now.netlist.gates) lines.now }
         requires gated { k < self.now.circuit.now.netlist.gates }

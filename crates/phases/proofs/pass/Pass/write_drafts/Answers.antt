@@ -1,4 +1,4 @@
-use Rattle.std.proofs.Common.{◌≡◌, ℕ, ◌+◌, List, sym, ap, ◌∙◌, subst, subst₂, arith}
+use Rattle.std.proofs.Common.{◌+◌, List, sym, ap, ◌∙◌, subst, arith}
 use Rattle.ternary.specs.declared.Value.{Value}
 use Rattle.ternary.specs.Logics.{tracks}
 use Rattle.switching.specs.Lines.{Lines}
@@ -6,14 +6,11 @@ use Rattle.switching.specs.Phases.{taken, target}
 use Rattle.track.specs.declared.table.Line.{Line}
 use Rattle.phases.specs.Reads.{changed_at, read_by}
 use Rattle.phases.specs.Passes.{numbered, next_of}
-use Rattle.phases.proofs.Gates.{Drafted, drafts_begin, none_drafted, one_drafted}
+use Rattle.phases.proofs.Gates.{Drafted, none_drafted, one_drafted}
 use Rattle.step.specs.declared.rows.Reading.TheVariants.{Whole}
 use Rattle.phases.proofs.Rows.{reading_same, readable_same}
 use Rattle.phases.proofs.pass.Pass.write_drafts.Goals as goal
 use Rattle.phases.proofs.pass.Pass.write_drafts.Goals.{then-read_by, else-read_by}
-
-pub loop-k-init : goal.loop-k-init
-loop-k-init g c = drafts_begin g.S.FaultSet.member c.inputs-inputs.result (read_by (changed_at c.args.self.now.changes.now.line) c.args.self.now.circuit.now.netlist) c.args.lines.now _
 
 pub loop-k-preserved : goal.loop-k-preserved
 loop-k-preserved g c =
@@ -32,17 +29,5 @@ loop-k-preserved g c =
           (none_drafted m P read first v c.loop-k.k c.loop-k.lines c.loop-k.invariant (sym c.read_by.ensures ∙ w.if-read_by.false))
     ]
 
-pub next_of-next-requires : goal.next_of-next-requires
-next_of-next-requires g c = record {
-  rows = readable_same g.S.FaultSet.member Whole _ c.loop-k.lines c.args.lines.now c.loop-k.invariant.held (omega arith) c.requires.rows;
-  gated = omega (arith, c.gates-k-end.ensures);
-}
-
-pub returns : goal.returns
-returns g c =
-    let m = g.S.FaultSet.member in
-    let read = read_by (changed_at c.args.self.now.changes.now.line) c.args.self.now.circuit.now.netlist in
-    let v = next_of m c.args.self.now.circuit.now c.args.self.now.index.now.list c.args.self.now.phase c.args.lines.now in
-    let e : c.loop-k.k ≡ c.args.self.now.circuit.now.netlist.gates = omega (arith, c.gates-k-end.ensures) in
-    let h = subst₂ (λ (P k : ℕ). Drafted m P read c.args.lines.now v k c.loop-k.lines) c.inputs-inputs.ensures e c.loop-k.invariant in
-    record { held = h.held; elsewhere = h.elsewhere; drafts = h.drafts }
+pub next_of-next-requires-clause-rows : goal.next_of-next-requires-clause-rows
+next_of-next-requires-clause-rows g c = readable_same g.S.FaultSet.member Whole _ c.loop-k.lines c.args.lines.now c.loop-k.invariant.held (omega arith) c.requires.rows

@@ -1,19 +1,19 @@
 -- Gate after gate, those that read a change: their drafts are written, and then taken.
 use Rattle.std.proofs.Common.{◌≡◌, ℕ, zero, suc, ◌+◌, ◌<◌, Bool, true, false, not, ◌&&◌, ◌≢◌, List, map, length, get_or, set, replicate, Decides, sym, refl, ap, ◌∙◌, subst, true≢false, arith}
 use native.Mathlib.Decide.{dec_lt}
-use Rattle.std.proofs.lemmas.List.{get_or-set_same, get_or-set_other}
+use Rattle.std.proofs.lemmas.List.{get_or_default, get_or-set_same, get_or-set_other}
 use Rattle.std.proofs.lemmas.Bool.Decides.{Decides-at, Decides-like, Decides-and}
 use Rattle.ternary.specs.declared.Value.{Value}
-use Rattle.ternary.specs.Logics.{tracks}
+use Rattle.ternary.specs.Logics.{Tracks as Pair, tracks}
 use Rattle.track.specs.declared.table.Line.{Line}
 use Rattle.track.specs.declared.table.Tracks.{Tracks}
 use Rattle.track.specs.Answers.{answers}
-use Rattle.step.specs.Rows.{stored_at, draft_at}
-use Rattle.step.proofs.Looks.{look_set_same, look_set_other}
+use Rattle.step.specs.Rows.{look, unknown, stored_at, draft_at}
+use Rattle.step.proofs.Looks.{look_at, look_set_same, look_set_other}
 use Rattle.phases.specs.declared.changes.Changes.{Changes}
 use Rattle.phases.specs.Reads.{changed_at}
 use Rattle.phases.specs.Passes.{Elsewhere}
-use Rattle.phases.proofs.Rows.{held_by_draft, stored_row, draft_row}
+use Rattle.phases.proofs.Rows.{held_by_draft}
 
 -- what holds of the gates below k that are chosen, and of k, holds of those below k + 1
 chosen_more : (read : ℕ → Bool) (Q : ℕ → Type 0) (k : ℕ) → ((i : ℕ) → i < k → read i ≡ true → Q i) → (read k ≡ true → Q k) → (i : ℕ) → i < k + 1 → read i ≡ true → Q i
@@ -95,28 +95,31 @@ module _ {S : Type 0} (m : S → ℕ → Bool) (P : ℕ) (read : ℕ → Bool) (
       is_idle = Decides-like idle (λ all. chosen_more read Same k all (λ t. absurd (not_chosen (read k) r t))) (λ all i lt. all i (omega arith)) h.is_idle;
     }
 
-    module _ (new : List (Line S)) (changed' : List Bool) (idle' same : Bool) (r : read k ≡ true) (here : P + k < length rows) (far : length rows ≡ length first)
-        (is : (d : Line S) → new ≡ set rows (P + k) (taken_row (get_or rows (P + k) d)))
-        (tells : Decides same ((n : ℕ) → stored_at m rows n (P + k) ≡ draft_at m rows n (P + k)))
+    module _ (new : List (Line S)) (any : Line S) (changed' : List Bool) (idle' same : Bool) (r : read k ≡ true) (here : P + k < length rows) (far : length rows ≡ length first)
+        (is : new ≡ set rows (P + k) (taken_row (get_or rows (P + k) any))) (tells : Decides same ((n : ℕ) → answers m (get_or rows (P + k) any).held n ≡ answers m (get_or rows (P + k) any).draft n))
         (noted : changed_at changed' (P + k) ≡ not same) (others : (j : ℕ) → (j ≡ P + k → ⊥) → changed_at changed' j ≡ changed_at changed j) (both : idle' ≡ (idle && same)) where
       -- the row of this gate is still as it was
-      fresh : (d : Line S) → get_or rows (P + k) d ≡ get_or first (P + k) d
-      fresh = (h.elsewhere (P + k) (λ i lt _ q. omega arith)).1
+      fresh : (d : Line S) → get_or rows (P + k) any ≡ get_or first (P + k) d
+      fresh d = get_or_default rows (P + k) any d here ∙ (h.elsewhere (P + k) (λ i lt _ q. omega arith)).1 d
+
+      looks : (f : Line S → Pair) → look f unknown first (P + k) ≡ f (get_or rows (P + k) any)
+      looks f = look_at f unknown first (P + k) any (omega arith) ∙ ap f (sym (fresh any))
 
       tells_first : Decides same (Same k)
-      tells_first = Decides-like same
-          (λ e n. sym (stored_row m rows first n (P + k) far fresh) ∙ e n ∙ draft_row m rows first n (P + k) far fresh)
-          (λ e n. stored_row m rows first n (P + k) far fresh ∙ e n ∙ sym (draft_row m rows first n (P + k) far fresh)) tells
+      tells_first =
+          let held = λ (n : ℕ). looks (λ x. answers m x.held n) in
+          let draft = λ (n : ℕ). looks (λ x. answers m x.draft n) in
+          Decides-like same (λ e n. held n ∙ e n ∙ sym (draft n)) (λ e n. sym (held n) ∙ e n ∙ draft n) tells
 
       pub one_committed : Committed (k + 1) new changed' idle'
       one_committed = record {
         elsewhere = λ j off.
             let ne : j ≡ P + k → ⊥ = off k (omega arith) r in
             let was = h.elsewhere j (λ i lt. off i (omega arith)) in
-            (others j ne ∙ was.0, λ d. ap (λ (ls : List (Line S)). get_or ls j d) (is d) ∙ get_or-set_other rows (P + k) j _ d ne ∙ was.1 d);
+            (others j ne ∙ was.0, λ d. ap (λ (ls : List (Line S)). get_or ls j d) is ∙ get_or-set_other rows (P + k) j _ d ne ∙ was.1 d);
         taken = λ i d. chosen_more read (λ i. get_or new (P + i) d ≡ taken_row (get_or first (P + i) d)) k
-            (λ i lt ri. let ne : (P + i) ≢ (P + k) = λ q. omega arith in ap (λ (ls : List (Line S)). get_or ls (P + i) d) (is d) ∙ get_or-set_other rows (P + k) (P + i) _ d ne ∙ h.taken i d lt ri)
-            (λ _. ap (λ (ls : List (Line S)). get_or ls (P + k) d) (is d) ∙ get_or-set_same rows (P + k) _ d here ∙ ap taken_row (fresh d)) i;
+            (λ i lt ri. let ne : (P + i) ≢ (P + k) = λ q. omega arith in ap (λ (ls : List (Line S)). get_or ls (P + i) d) is ∙ get_or-set_other rows (P + k) (P + i) _ d ne ∙ h.taken i d lt ri)
+            (λ _. ap (λ (ls : List (Line S)). get_or ls (P + k) d) is ∙ get_or-set_same rows (P + k) _ d here ∙ ap taken_row (fresh d)) i;
         unchanged = chosen_more read (λ i. changed_at changed' (P + i) ≡ false → Same i) k
             (λ i lt ri c. h.unchanged i lt ri (sym (others (P + i) (λ q. omega arith)) ∙ c))
             (λ _ c. tells_first.0 (twice same (sym noted ∙ c)));

@@ -1,3 +1,4 @@
+pub mod Pins
 pub mod Rows
 pub mod Unread
 pub mod Gates

@@ -6,57 +6,46 @@ ghost use Rattle.step.specs.Rows.{draft_at, Readable};
 ghost use Rattle.phases.specs.Reads.{changed_at, read_by};
 ghost use Rattle.phases.specs.Passes.{next_of, Elsewhere};
 
-use crate::changes::Changes;
-use circuit::circuit::Circuit;
+use crate::pass::Pass;
 use fault_set::set::FaultSet;
-use site_index::SiteIndex;
 use step::gate::GateView;
 use step::rows::{Reading, put_draft};
 use switching::Phase;
 use track::table::{Line, Tracks};
 
-// What a pass gives gate k.
-fn next_of<S: FaultSet>(
-    circuit: &Circuit,
-    index: &SiteIndex,
-    lines: &[Line<S>],
-    phase: Phase,
-    k: u8,
-) -> Tracks<S>
-    requires rows { Readable S.member Reading.Whole (circuit.now.netlist.inputs + circuit.now.netlist.gates) lines.now }
-    requires gated { k < circuit.now.netlist.gates }
-    ensures { (n : ℕ) → answers S.member result n ≡ tracks_of (next_of S.member circuit.now index.now.list phase lines.now n k) }
-{
-    let gate = GateView::new(circuit, index, lines, Reading::Whole, k);
-    let target = gate.target_of();
-    match phase {
-        Phase::Spread => {
-            let mut next = gate.own();
-            next.join_in(&target);
-            next
+impl<'a> Pass<'a> {
+    // What it gives gate k.
+    #[tactic(auto, using(crate::proofs::Rows::spread_taken, crate::proofs::Rows::settle_taken))]
+    fn next_of<S: FaultSet>(&self, lines: &[Line<S>], k: u8) -> Tracks<S>
+        requires rows { Readable S.member Reading.Whole (self.now.circuit.now.netlist.inputs + self.now.circuit.now.netlist.gates) lines.now }
+        requires gated { k < self.now.circuit.now.netlist.gates }
+        ensures { (n : ℕ) → answers S.member result n ≡ tracks_of (next_of S.member self.now.circuit.now self.now.index.now.list self.now.phase lines.now n k) }
+    {
+        let gate = GateView::new(self.circuit, self.index, lines, Reading::Whole, k);
+        let target = gate.target_of();
+        match self.phase {
+            Phase::Spread => {
+                let mut next = gate.own();
+                next.join_in(&target);
+                next
+            }
+            Phase::Settle => target,
         }
-        Phase::Settle => target,
     }
-}
 
-// Writes the draft of every gate that reads a line that changed.
-pub(crate) fn write_drafts<S: FaultSet>(
-    circuit: &Circuit,
-    index: &SiteIndex,
-    lines: &mut [Line<S>],
-    phase: Phase,
-    changes: &Changes,
-)
-    requires rows { Readable S.member Reading.Whole (circuit.now.netlist.inputs + circuit.now.netlist.gates) lines.old }
-    ensures held { map (λ x. x.held) lines.new ≡ map (λ x. x.held) lines.old }
-    ensures elsewhere { (j : ℕ) (d : Line S) → Elsewhere circuit.now.netlist.inputs (read_by (changed_at changes.now.line) circuit.now.netlist) circuit.now.netlist.gates j → slice_index_or lines.new j d ≡ slice_index_or lines.old j d }
-    ensures drafts { (n k : ℕ) → k < circuit.now.netlist.gates → read_by (changed_at changes.now.line) circuit.now.netlist k ≡ true → draft_at S.member lines.new n (circuit.now.netlist.inputs + k) ≡ tracks_of (next_of S.member circuit.now index.now.list phase lines.old n k) }
-{
-    let inputs = circuit.inputs();
-    for k in 0..circuit.gates() {
-        if changes.read_by(circuit, k) {
-            let next = next_of(circuit, index, lines, phase, k);
-            put_draft(lines, (inputs + k) as usize, next);
+    // Writes the draft of every gate that reads a line that changed.
+    pub(crate) fn write_drafts<S: FaultSet>(&self, lines: &mut [Line<S>])
+        requires rows { Readable S.member Reading.Whole (self.now.circuit.now.netlist.inputs + self.now.circuit.now.netlist.gates) lines.old }
+        ensures held { map (λ x. x.held) lines.new ≡ map (λ x. x.held) lines.old }
+        ensures elsewhere { (j : ℕ) (d : Line S) → Elsewhere self.now.circuit.now.netlist.inputs (read_by (changed_at self.now.changes.now.line) self.now.circuit.now.netlist) self.now.circuit.now.netlist.gates j → slice_index_or lines.new j d ≡ slice_index_or lines.old j d }
+        ensures drafts { (n k : ℕ) → k < self.now.circuit.now.netlist.gates → read_by (changed_at self.now.changes.now.line) self.now.circuit.now.netlist k ≡ true → draft_at S.member lines.new n (self.now.circuit.now.netlist.inputs + k) ≡ tracks_of (next_of S.member self.now.circuit.now self.now.index.now.list self.now.phase lines.old n k) }
+    {
+        let inputs = self.circuit.inputs();
+        for k in 0..self.circuit.gates() {
+            if self.changes.read_by(self.circuit, k) {
+                let next = self.next_of(lines, k);
+                put_draft(lines, (inputs + k) as usize, next);
+            }
         }
     }
 }

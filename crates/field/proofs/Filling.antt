@@ -5,6 +5,7 @@ use Rattle.refusal.specs.declared.FileFault.{FileFault}
 use Rattle.field.specs.declared.unread.Unread.{Unread}
 use Rattle.field.specs.Fields.{Reading, next, many}
 use Rattle.field.specs.Answers.{ReadAs, Each, Told, BrokenOff, in_a_row}
+use Rattle.field.proofs.Steps.{many_more, many_refused}
 
 -- so many things, and then so many more
 many_then : {A : Type 0} (read : List A → List ℕ → Reading A) (m n k : ℕ) (before : List A) (s : List ℕ) → k ≡ m + n → many read k before s ≡ next (many read m before s) (λ b rest. many read n b rest)
@@ -70,7 +71,7 @@ module _ {A : Type 0} (Call : Bor (List A) → Unread → Result (A × Unread) F
             let h = here view step (Ok (thing, rest)) call each in (
               h.0 ∙ p.0,
               ap (λ l. Ok (l, rest.rest.now)) (ap (map view) (take_more_set table at thing (omega (arith, f.room))) ∙ map_push view (take at table) thing)
-                  ∙ sym (then _ at 1 s.rest.now _ _ p.1 ∙ ap (λ v. next v (λ a r. Ok (map view (take at table) ++ a ∷ [], r))) (sym (rw (is, p.0) at h.1))),
+                  ∙ sym (then _ at 1 s.rest.now _ _ p.1 ∙ many_more (λ b. step b s.end) 1 0 _ left.rest.now (view thing) rest.rest.now refl (sym (rw (is, p.0) at h.1))),
             );
       };
     }
@@ -84,7 +85,7 @@ module _ {A : Type 0} (Call : Bor (List A) → Unread → Result (A × Unread) F
           let h = here view step (Err e) call each_here in
           let left_over = length old - (at + 1) in
           let parts : length old ≡ at + suc left_over = omega arith in
-          rw parts (sym (then _ at (suc left_over) s.rest.now _ _ p.1 ∙ ap (λ v. next v (λ a r. many (λ b. step b s.end) left_over (map view (take at table) ++ a ∷ []) r)) (sym (rw (is, p.0) at h))));
+          rw parts (sym (then _ at (suc left_over) s.rest.now _ _ p.1 ∙ many_refused (λ b. step b s.end) (suc left_over) _ left.rest.now e (omega arith) (sym (rw (is, p.0) at h))));
     }
 
   pub broken_off : (table : List A) (left : Unread) (at : ℕ) → at < length old → Far at table left → BrokenOff Call old s table

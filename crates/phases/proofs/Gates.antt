@@ -51,17 +51,18 @@ module _ {S : Type 0} (m : S → ℕ → Bool) (P : ℕ) (read : ℕ → Bool) (
       drafts = λ n. chosen_more read (λ i. draft_at m rows n (P + i) ≡ tracks (v n i)) k (h.drafts n) (λ t. absurd (not_chosen (read k) r t));
     }
 
-    pub one_drafted : (new : List (Line S)) (t : Tracks S) → read k ≡ true → P + k < length rows → ((d : Line S) → new ≡ set rows (P + k) (record { held = (get_or rows (P + k) d).held; draft = t }))
-        → ((n : ℕ) → answers m t n ≡ tracks (v n k)) → Drafted v (k + 1) new
-    one_drafted new t r here is says =
-        let any : Line S = record { held = t; draft = t } in
-        record {
-          held = ap (map (λ x. x.held)) (is any) ∙ held_by_draft rows (P + k) any t ∙ h.held;
-          elsewhere = λ j d off. ap (λ (ls : List (Line S)). get_or ls j d) (is d) ∙ get_or-set_other rows (P + k) j _ d (off k (omega arith) r) ∙ h.elsewhere j d (λ i lt. off i (omega arith));
-          drafts = λ n. chosen_more read (λ i. draft_at m new n (P + i) ≡ tracks (v n i)) k
-              (λ i lt ri. let ne : (P + i) ≢ (P + k) = λ q. omega arith in ap (λ (ls : List (Line S)). draft_at m ls n (P + i)) (is any) ∙ look_set_other _ _ rows _ _ _ ne ∙ h.drafts n i lt ri)
-              (λ _. ap (λ (ls : List (Line S)). draft_at m ls n (P + k)) (is any) ∙ look_set_same _ _ rows _ _ here ∙ says n);
-        }
+    -- a row whose draft is written
+    abbrev drafted_row : Line S → Tracks S → Line S
+    drafted_row x t = record { held = x.held; draft = t }
+
+    pub one_drafted : (any : Line S) (t : Tracks S) → read k ≡ true → P + k < length rows → ((n : ℕ) → answers m t n ≡ tracks (v n k)) → Drafted v (k + 1) (set rows (P + k) (drafted_row (get_or rows (P + k) any) t))
+    one_drafted any t r here says = record {
+      held = held_by_draft rows (P + k) any t ∙ h.held;
+      elsewhere = λ j d off. get_or-set_other rows (P + k) j _ d (off k (omega arith) r) ∙ h.elsewhere j d (λ i lt. off i (omega arith));
+      drafts = λ n. chosen_more read (λ i. draft_at m (set rows (P + k) (drafted_row (get_or rows (P + k) any) t)) n (P + i) ≡ tracks (v n i)) k
+          (λ i lt ri. let ne : (P + i) ≢ (P + k) = λ q. omega arith in look_set_other _ _ rows _ _ _ ne ∙ h.drafts n i lt ri)
+          (λ _. look_set_same _ _ rows _ _ here ∙ says n);
+    }
 
   -- a row that took its draft
   abbrev pub taken_row : Line S → Line S

@@ -1,6 +1,5 @@
 // Drafts are taken.
 ghost use Rattle.std.specs.Prelude.{◌≡◌, ℕ, ◌+◌, ◌<◌, ◌≤◌, true, false, length, Decides, slice_index_or};
-ghost use Rattle.track.specs.Answers.{answers};
 ghost use Rattle.step.specs.Rows.{stored_at, draft_at};
 ghost use Rattle.phases.specs.Reads.{changed_at, read_by};
 ghost use Rattle.phases.specs.Passes.{Elsewhere};
@@ -9,16 +8,6 @@ use crate::changes::Changes;
 use crate::pass::Pass;
 use fault_set::set::FaultSet;
 use track::table::Line;
-
-// A line takes its draft; whether the draft has the same answers as what was held.
-fn take_draft<S: FaultSet>(line: &mut Line<S>) -> bool
-    ensures row { line.new ≡ record { held = line.old.draft; draft = line.old.draft } }
-    ensures same { Decides result ((n : ℕ) → answers S.member line.old.held n ≡ answers S.member line.old.draft n) }
-{
-    let same = line.held.same(&line.draft);
-    line.held = line.draft;
-    same
-}
 
 impl<'a> Pass<'a> {
     // Every gate that read a line that changed takes its draft; which lines change by that.
@@ -33,7 +22,7 @@ impl<'a> Pass<'a> {
         let mut next = Changes::none();
         for k in 0..self.circuit.gates() {
             if self.changes.read_by(self.circuit, k) {
-                let same = take_draft(&mut lines[(inputs + k) as usize]);
+                let same = lines[(inputs + k) as usize].take_draft();
                 next.note(inputs + k, same);
             }
         }

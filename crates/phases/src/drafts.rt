@@ -9,19 +9,16 @@ ghost use Rattle.phases.specs.Passes.{next_of, Elsewhere};
 use crate::pass::Pass;
 use fault_set::set::FaultSet;
 use step::gate::GateView;
-use step::rows::{Reading, put_draft};
+use step::rows::Reading;
 use switching::Phase;
 use track::table::{Line, Tracks};
 
 impl<'a> Pass<'a> {
-    // What it gives gate k.
+    // What it gives a gate.
     #[tactic(auto, using(crate::proofs::Rows::spread_taken, crate::proofs::Rows::settle_taken))]
-    fn next_of<S: FaultSet>(&self, lines: &[Line<S>], k: u8) -> Tracks<S>
-        requires rows { Readable S.member Reading.Whole (self.now.circuit.now.netlist.inputs + self.now.circuit.now.netlist.gates) lines.now }
-        requires gated { k < self.now.circuit.now.netlist.gates }
-        ensures { (n : ℕ) → answers S.member result n ≡ tracks_of (next_of S.member self.now.circuit.now self.now.index.now.list self.now.phase lines.now n k) }
+    fn next_of<S: FaultSet>(&self, gate: &GateView<'_, S>) -> Tracks<S>
+        ensures { (n : ℕ) → answers S.member result n ≡ tracks_of (next_of S.member gate.now.circuit.now gate.now.index.now.list self.now.phase gate.now.lines.now n gate.now.k) }
     {
-        let gate = GateView::new(self.circuit, self.index, lines, Reading::Whole, k);
         let target = gate.target_of();
         match self.phase {
             Phase::Spread => {
@@ -43,8 +40,9 @@ impl<'a> Pass<'a> {
         let inputs = self.circuit.inputs();
         for k in 0..self.circuit.gates() {
             if self.changes.read_by(self.circuit, k) {
-                let next = self.next_of(lines, k);
-                put_draft(lines, (inputs + k) as usize, next);
+                let gate = GateView::new(self.circuit, self.index, lines, Reading::Whole, k);
+                let next = self.next_of(&gate);
+                lines[(inputs + k) as usize].draft = next;
             }
         }
     }

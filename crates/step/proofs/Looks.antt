@@ -1,20 +1,16 @@
 -- A look at one row, and what is read there.
-use Rattle.std.proofs.Common.{◌≡◌, ℕ, zero, suc, ◌<◌, Bool, true, false, ◌≢◌, List, [], ◌∷◌, map, length, get_or, set, sym, refl, ap, ◌∙◌, arith}
+use Rattle.std.proofs.Common.{◌≡◌, ℕ, zero, suc, ◌<◌, Bool, true, false, ◌≢◌, List, [], ◌∷◌, map, length, get_or, set, refl, ap, ◌∙◌, arith}
 use Rattle.std.proofs.lemmas.List.{get_or-map, map-set, get_or-set_other}
 use Rattle.ternary.specs.declared.Value.{Value}
 use Rattle.ternary.specs.declared.Value.TheVariants.{Zero, One, Two}
 use Rattle.ternary.specs.Logics.{Tracks as Pair, tracks}
 use Rattle.track.specs.declared.table.Line.{Line}
-use Rattle.track.specs.Answers.{answers, whole, meaning, value}
+use Rattle.track.specs.Answers.{answers, whole, value}
 use Rattle.step.specs.Rows.{look, unknown, held_at}
 
 pub look_at : {A B : Type 0} (f : A → B) (z : B) (xs : List A) (i : ℕ) (d : A) → i < length xs → look f z xs i ≡ f (get_or xs i d)
 unfolding look
 look_at f z xs i d h = get_or-map f xs i d z h
-
--- what was read at a row is that row
-pub look_read : {A B : Type 0} (f : A → B) (z : B) (xs : List A) (i : ℕ) (x : A) → i < length xs → x ≡ get_or xs i x → look f z xs i ≡ f x
-look_read f z xs i x h e = look_at f z xs i x h ∙ ap f (sym e)
 
 pub look_set_same : {A B : Type 0} (f : A → B) (z : B) (xs : List A) (i : ℕ) (v : A) → i < length xs → look f z (set xs i v) i ≡ f v
 unfolding look
@@ -55,10 +51,3 @@ pub whole_tracks : (v : Value) → whole (tracks v) ≡ tracks v
 whole_tracks Zero = refl
 whole_tracks One = refl
 whole_tracks Two = refl
-
--- mending does not change what answers mean
-pub value_whole : (a b : Bool) → meaning a b ≡ value (whole (record { may_be_1 = a; may_be_0 = b }))
-value_whole true true = refl
-value_whole true false = refl
-value_whole false true = refl
-value_whole false false = refl

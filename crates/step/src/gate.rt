@@ -8,7 +8,7 @@ ghost use Rattle.step.specs.declared.rows.Reading.{Reading};
 ghost use Rattle.step.specs.Pins.{pin_reads};
 ghost use Rattle.step.specs.Rows.{held_at, WholeRows, Readable};
 
-use crate::rows::{Reading, held, stick};
+use crate::rows::{Reading, stick};
 use circuit::circuit::Circuit;
 use circuit::drive::drives;
 use circuit::gate::Gate;
@@ -70,11 +70,24 @@ impl<'a, S: FaultSet> GateView<'a, S> {
         self.circuit.inputs() + self.k
     }
 
+    // The tracks of line i, as they are read.
+    #[tactic(auto, using(crate::proofs::Looks::look_at))]
+    fn held(&self, i: u8) -> Tracks<S>
+        requires { i < self.now.circuit.now.netlist.inputs + self.now.circuit.now.netlist.gates }
+        ensures { (n : ℕ) → answers S.member result n ≡ held_at S.member self.now.lines.now n i }
+    {
+        let line = &self.lines[i as usize];
+        match self.how {
+            Reading::Whole => line.held,
+            Reading::Any => line.held.mended(),
+        }
+    }
+
     /// The tracks of its own line, as they are read.
     pub fn own(&self) -> Tracks<S>
         ensures { (n : ℕ) → answers S.member result n ≡ held_at S.member self.now.lines.now n (self.now.circuit.now.netlist.inputs + self.now.k) }
     {
-        held(self.lines, self.line() as usize, self.how)
+        self.held(self.line())
     }
 
     // What pin j reads.
@@ -83,8 +96,8 @@ impl<'a, S: FaultSet> GateView<'a, S> {
         requires { j < (gate_at self.now.circuit.now.netlist.gate self.now.k).pins }
         ensures { (n : ℕ) → answers S.member result n ≡ pin_reads S.member self.now.circuit.now.netlist self.now.index.now.list self.now.lines.now n self.now.k j }
     {
-        let read = self.gate().pin[j as usize];
-        let mut tracks = held(self.lines, read as usize, self.how);
+        let line = self.gate().pin[j as usize];
+        let mut tracks = self.held(line);
         let site = Site::Pin {
             line: self.line(),
             pin: j,

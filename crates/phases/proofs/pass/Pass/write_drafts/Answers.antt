@@ -22,12 +22,13 @@ loop-k-preserved g c =
     let same = reading_same m c.args.self.now.circuit.now.netlist.inputs c.loop-k.lines first c.loop-k.invariant.held in
     elim c.if-read_by.branch [
       | then-read_by w ↦ subst (λ (ls : List (Line g.row.S.Denot)). Drafted m P read first v (c.loop-k.k + 1) ls) (sym w.lines-is)
-          (one_drafted m P read first v c.loop-k.k c.loop-k.lines c.loop-k.invariant w.put_draft.new.lines w.next_of-next.result
-          (sym c.read_by.ensures ∙ w.if-read_by.true) (omega (arith, c.inputs-inputs.ensures, c.gates-k-end.ensures, c.requires.rows.room)) w.put_draft.ensures
-          (λ n. w.next_of-next.ensures n ∙ ap (λ (A : Lines Value). tracks (taken c.args.self.now.phase (A.gate c.loop-k.k) (target (numbered c.args.self.now.circuit.now c.args.self.now.index.now.list n) A c.loop-k.k))) (same n)))
+          (one_drafted m P read first v c.loop-k.k c.loop-k.lines c.loop-k.invariant w.index-lines-inputs.result w.next_of-next.result
+          (sym c.read_by.ensures ∙ w.if-read_by.true) (omega (arith, c.inputs-inputs.ensures, c.gates-k-end.ensures, c.requires.rows.room))
+          (λ n. w.next_of-next.ensures n ∙ rw (w.new-gate.ensures.circuit, w.new-gate.ensures.index, w.new-gate.ensures.lines, w.new-gate.ensures.gate)
+          (ap (λ (A : Lines Value). tracks (taken c.args.self.now.phase (A.gate c.loop-k.k) (target (numbered c.args.self.now.circuit.now c.args.self.now.index.now.list n) A c.loop-k.k))) (same n))))
       | else-read_by w ↦ subst (λ (ls : List (Line g.row.S.Denot)). Drafted m P read first v (c.loop-k.k + 1) ls) (sym w.lines-is)
           (none_drafted m P read first v c.loop-k.k c.loop-k.lines c.loop-k.invariant (sym c.read_by.ensures ∙ w.if-read_by.false))
     ]
 
-pub next_of-next-requires-clause-rows : goal.next_of-next-requires-clause-rows
-next_of-next-requires-clause-rows g c = readable_same g.S.FaultSet.member Whole _ c.loop-k.lines c.args.lines.now c.loop-k.invariant.held (omega arith) c.requires.rows
+pub new-gate-requires-clause-rows : goal.new-gate-requires-clause-rows
+new-gate-requires-clause-rows g c = readable_same g.S.FaultSet.member Whole _ c.loop-k.lines c.args.lines.now c.loop-k.invariant.held (omega arith) c.requires.rows

@@ -50,6 +50,7 @@ impl Circuit {
     pub fn at_rest(design: Design) -> Result<Circuit, u8>
         ensures { MatchResult result (λ c. (c.netlist ≡ design.netlist) × (restless design.netlist ≡ None)) (λ line. restless design.netlist ≡ Some line) }
     {
+        // Kept, no plainer: no call of Option makes an error of what it holds.
         match design.first_restless() {
             Some(line) => Err(line),
             None => Ok(Circuit {

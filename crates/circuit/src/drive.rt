@@ -27,6 +27,7 @@ struct AtGate<'a, T: Signal, P: Fn(u8) -> T> {
     pin: &'a P,
 }
 
+// Kept, proof did not close: each method asks that the pins can be read, since a ghost field cannot yet cite what a closure asks.
 impl<T: Signal, P: Fn(u8) -> T> AtGate<'_, T, P> {
     // Pin j, inverted where the mask has bit j.
     #[tactic(auto, unfolding(crate::specs::Gates::literal))]

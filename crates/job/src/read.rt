@@ -19,6 +19,7 @@ fn faults_of(design: &Design, named: Option<FaultList>) -> Result<FaultList, Cir
     requires { Few named }
     ensures { MatchResult result (λ list. (list.count ≤ 192) × (graded (trimmed design.now.netlist) (listed_in named) ≡ rested (record { netlist = trimmed design.now.netlist; faults = listed list }) (restless (trimmed design.now.netlist)))) (λ e. graded (trimmed design.now.netlist) (listed_in named) ≡ Err e) }
 {
+    // Kept, no plainer: as one call, `map_or_else`, the made list would stand before the named one.
     match named {
         Some(list) => Ok(list),
         None => made_list(design),

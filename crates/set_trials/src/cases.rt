@@ -6,6 +6,7 @@ use number_list::list::NumberList;
 use std::process::Abort;
 
 /// What is done to the first set.
+// Kept, no plainer: a step is a word in a row of a table that serves every kind, and a closure is made for one.
 #[derive(Clone, Copy)]
 enum Step {
     Nothing,

@@ -27,6 +27,7 @@ struct AtGate<'a, T: Signal, P: Fn(u8) -> T> {
     pin: &'a P,
 }
 
+// Kept, proof did not close: a ghost field cannot cite what an `Fn` bound requires, so each method asks that its pins can be read.
 impl<T: Signal, P: Fn(u8) -> T> AtGate<'_, T, P> {
     // Pin j, inverted where the mask has bit j.
     #[tactic(auto, unfolding(crate::specs::Gates::literal))]

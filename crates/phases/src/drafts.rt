@@ -42,7 +42,7 @@ impl<'a> Pass<'a> {
             if self.changes.read_by(self.circuit, k) {
                 let gate = GateView::new(self.circuit, self.index, lines, Reading::Whole, k);
                 let next = self.next_of(&gate);
-                lines[(inputs + k) as usize].draft = next;
+                lines[(inputs + k) as usize].put_draft(next);
             }
         }
     }

@@ -21,13 +21,14 @@ pub enum Reading {
 
 /// Gives each circuit whose fault sits at the site its stuck value, and leaves the others.
 /// Public only for the layers above, which go through the lines and pins of a circuit.
-#[tactic(auto, using(site_index::proofs::Following::left_below))]
+#[tactic(auto, using(std::proofs::lemmas::Bool::Decides::nat_tests, std::proofs::lemmas::List::Sums::fold_push, site_index::proofs::Following::left_below))]
 pub fn stick<S: FaultSet>(tracks: &mut Tracks<S>, index: &SiteIndex, site: Site)
     requires { on_table site ≡ true }
     ensures { (n : ℕ) → answers S.member tracks.new n ≡ seen by_tracks.const (stuck_at (fault_of index.now.list n) site) (answers S.member tracks.old n) }
 {
     let faults = &index.list().fault;
     for n in index.numbers_at(site) {
+        prove!(n < 192);
         tracks.hold(n, faults[n as usize].stuck);
     }
 }

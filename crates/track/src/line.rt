@@ -34,6 +34,13 @@ impl<S: FaultSet> Line<S> {
         meant(self.held.one.good, self.held.zero.good)
     }
 
+    /// Writes its draft, and leaves what it holds.
+    pub fn put_draft(&mut self, tracks: Tracks<S>)
+        ensures { self.new ≡ record { held = self.old.held; draft = tracks } }
+    {
+        self.draft = tracks;
+    }
+
     /// Writes what it holds and its draft.
     pub fn put(&mut self, tracks: Tracks<S>)
         ensures { self.new ≡ record { held = tracks; draft = tracks } }

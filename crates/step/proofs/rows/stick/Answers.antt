@@ -1,18 +1,10 @@
-use Rattle.std.proofs.Common.{rules, ◌≡◌, ℕ, List, [], ◌++◌, cond, Bool, fold, append-nil, sym, ap, ◌∙◌, arith}
-use Rattle.std.proofs.lemmas.Bool.Decides.{nat_tests}
-use Rattle.std.proofs.lemmas.List.Sums.{fold_push}
+use Rattle.std.proofs.Common.{◌≡◌, ℕ, List, [], ◌++◌, cond, Bool, fold, append-nil, sym, ap, ◌∙◌}
 use Rattle.ternary.specs.Logics.{by_tracks}
 use Rattle.track.specs.Answers.{answers}
 use Rattle.site_index.specs.Sites.{numbers_from}
 use Rattle.site_index.specs.Numbers.{numbers_left}
-use Rattle.site_index.proofs.Following.{left_below}
 use Rattle.step.proofs.Sticking.{held_by, held_all, so_far}
 use Rattle.step.proofs.rows.stick.Goals as goal
-
-pub loop-n-preserved : goal.loop-n-preserved
-loop-n-preserved g c = λ f.
-    let there = c.hold.ensures.there (omega (arith, left_below c.loop-n.n-iterator _ _ c.in-Some.ensures.steps)) in
-    search (rules, nat_tests, fold_push, there)
 
 pub returns : goal.returns
 returns g c = λ f.

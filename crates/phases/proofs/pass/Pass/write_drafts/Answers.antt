@@ -1,4 +1,4 @@
-use Rattle.std.proofs.Common.{◌+◌, List, sym, ap, ◌∙◌, subst, arith}
+use Rattle.std.proofs.Common.{◌+◌, List, set, sym, ap, ◌∙◌, subst, arith}
 use Rattle.ternary.specs.declared.Value.{Value}
 use Rattle.ternary.specs.Logics.{tracks}
 use Rattle.switching.specs.Lines.{Lines}
@@ -21,7 +21,7 @@ loop-k-preserved g c =
     let v = next_of m c.args.self.now.circuit.now c.args.self.now.index.now.list c.args.self.now.phase first in
     let same = reading_same m c.args.self.now.circuit.now.netlist.inputs c.loop-k.lines first c.loop-k.invariant.held in
     elim c.if-read_by.branch [
-      | then-read_by w ↦ subst (λ (ls : List (Line g.row.S.Denot)). Drafted m P read first v (c.loop-k.k + 1) ls) (sym w.lines-is)
+      | then-read_by w ↦ subst (λ (ls : List (Line g.row.S.Denot)). Drafted m P read first v (c.loop-k.k + 1) ls) (sym (w.lines-is ∙ ap (set c.loop-k.lines (P + c.loop-k.k)) w.put_draft.ensures))
           (one_drafted m P read first v c.loop-k.k c.loop-k.lines c.loop-k.invariant w.index-lines-inputs.result w.next_of-next.result
           (sym c.read_by.ensures ∙ w.if-read_by.true) (omega (arith, c.inputs-inputs.ensures, c.gates-k-end.ensures, c.requires.rows.room))
           (λ n. w.next_of-next.ensures n ∙ rw (w.new-gate.ensures.circuit, w.new-gate.ensures.index, w.new-gate.ensures.lines, w.new-gate.ensures.gate)

@@ -14,6 +14,7 @@ pub struct Members<'a, S> {
 }
 
 /// Goes over the members, smallest first: all numbers that are in the set, each once, and no other.
+#[tactic(auto, using(crate::proofs::Walked::contains_members, crate::proofs::Walked::length_below))]
 pub fn members_of<'a, S: FaultSet>(set: &'a S) -> Members<'a, S>
     ensures shown { AlwaysYields ⟦<Members<'a, S> as Iterator>⟧.next_gives (λ n. n) result (members_below (S.member set.now) 192) }
     ensures every { (k : ℕ) → contains (members_below (S.member set.now) 192) k ≡ S.member set.now k }

@@ -60,7 +60,7 @@ impl<'a> Unread<'a> {
 
     /// Reads things one after another until the table is full, each in the light of those before it.
     /// Where one is refused, so is the whole: the table then has the things before that one, and keeps its other places.
-    #[tactic(auto, using(crate::proofs::Filling::filled_none, crate::proofs::Filling::filled_whole))]
+    #[tactic(auto, using(crate::proofs::Filling::filled_none, crate::proofs::Filling::filled_whole, crate::proofs::Filling::broken_off))]
     pub fn fill<T: Copy, F: Fn(&[T], Unread<'a>) -> Result<(T, Unread<'a>), FileFault>>(
         self,
         table: &mut [T],

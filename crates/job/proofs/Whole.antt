@@ -1,5 +1,5 @@
 -- From the parts of a file to its job: what is left over, which faults are graded, and that the job is lawful.
-use Rattle.std.proofs.Common.{◌≡◌, ℕ, zero, suc, ◌+◌, ◌-◌, ◌<◌, ◌≤◌, true, List, ◌++◌, map, length, take, Some, None, Ok, Err, Option, Result, MatchResult, sym, refl, ap, ◌∙◌, ap₂, arith, le-ltb, lt-ltb}
+use Rattle.std.proofs.Common.{◌≡◌, ℕ, zero, suc, ◌+◌, ◌-◌, ◌<◌, ◌≤◌, true, List, ◌++◌, map, length, take, Some, None, Ok, Err, Option, Result, MatchResult, sym, refl, ap, ◌∙◌, subst, ap₂, arith, le-ltb, lt-ltb}
 use Rattle.std.proofs.lemmas.List.{length-take-le, get_or-take}
 use Rattle.refusal.specs.declared.FileFault.{FileFault}
 use Rattle.refusal.specs.declared.FileFault.TheVariants.{Overlong}
@@ -9,10 +9,13 @@ use Rattle.circuit.specs.declared.circuit.Circuit.{Circuit}
 use Rattle.circuit.specs.declared.gate.Gate.{Gate}
 use Rattle.circuit.specs.declared.netlist.Netlist.{Netlist}
 use Rattle.circuit.specs.declared.site.Fault.{Fault}
+use Rattle.circuit.specs.declared.site.FaultList.{FaultList}
 use Rattle.circuit.specs.Netlists.{fault_at, trimmed, trimmed_gate, restless, sited, Lawful}
 use Rattle.circuit.proofs.Trimmed.{gate_at_trimmed, lawful_from_trimmed, restless_trimmed, sited_trimmed}
-use Rattle.format.specs.Descriptions.{LawfulJob, stems, pins_of, gate_pins, made}
+use Rattle.format.specs.Descriptions.{Description, LawfulJob, stems, pins_of, gate_pins, made}
+use Rattle.format.specs.Law.{Exactly}
 use Rattle.format.specs.Reading.{parts_of, rested, graded, job_of}
+use Rattle.reader.specs.Parts.{listed, listed_in}
 use Rattle.format.proofs.JobLaw.{exactly, parts_lawful}
 
 -- a netlist that is read is lawful but for its start
@@ -47,6 +50,17 @@ made_graded n faults e l = rw (made_trimmed n, le-ltb 192 (length (made n)) l, e
 
 pub made_crowded : (n : Netlist) → 192 < length (made n) → graded (trimmed n) None ≡ Err (Crowded (length (made n)))
 made_crowded n l = rw (made_trimmed n, lt-ltb 192 (length (made n)) l)
+
+-- the made list is graded where the file names none
+pub made_list_graded : (n : Netlist) (o : Option FaultList) → o ≡ None → (r : Result FaultList CircuitFault)
+    → MatchResult r (λ list. (take list.count list.fault ≡ made n) × (length (made n) ≤ 192) × (list.count ≤ 192)) (λ e. (e ≡ Crowded (length (made n))) × (192 < length (made n)))
+    → MatchResult r (λ list. (list.count ≤ 192) × (graded (trimmed n) (listed_in o) ≡ rested (record { netlist = trimmed n; faults = listed list }) (restless (trimmed n)))) (λ e. graded (trimmed n) (listed_in o) ≡ Err e)
+made_list_graded n o e (Ok list) w = (w.2, ap (λ (o : Option FaultList). graded (trimmed n) (listed_in o)) e ∙ made_graded n _ w.0 w.1)
+made_list_graded n o e (Err f) w = ap (λ (o : Option FaultList). graded (trimmed n) (listed_in o)) e ∙ made_crowded n w.1 ∙ ap Err (sym w.0)
+
+-- the answer to a file obeys the law of the format
+pub law_of : (file : List ℕ) (r : Result Description CircuitFault) → r ≡ job_of file → Exactly file r
+law_of file r e = subst (Exactly file) (sym e) (exactly file)
 
 -- a job that is given is lawful, so its faults are on sites of its circuit
 module _ (file : List ℕ) (n : Netlist) (count : ℕ) (table : List Fault) (given : job_of file ≡ Ok (record { netlist = trimmed n; faults = take count table })) (room : count ≤ length table) where

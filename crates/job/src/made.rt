@@ -70,8 +70,8 @@ fn all_sites(design: &Design) -> Making
     for line in 0..lines {
         making.add_both(Site::Stem(line));
     }
-    for k in 0..netlist.gates {
-        making.add_pins(netlist.inputs + k, netlist.gate[k as usize].pins);
+    for (line, gate) in (netlist.inputs..lines).zip(&netlist.gate) {
+        making.add_pins(line, gate.pins);
     }
     making
 }

@@ -15,6 +15,7 @@ use reader::parts::read_parts;
 use refusal::{CircuitFault, FileFault};
 
 // The faults that the file names, or the made list.
+#[tactic(auto, using(crate::proofs::Whole::made_list_graded))]
 fn faults_of(design: &Design, named: Option<FaultList>) -> Result<FaultList, CircuitFault>
     requires { Few named }
     ensures { MatchResult result (λ list. (list.count ≤ 192) × (graded (trimmed design.now.netlist) (listed_in named) ≡ rested (record { netlist = trimmed design.now.netlist; faults = listed list }) (restless (trimmed design.now.netlist)))) (λ e. graded (trimmed design.now.netlist) (listed_in named) ≡ Err e) }
@@ -51,6 +52,7 @@ fn write_job(file: &[u8], job: &mut Job) -> Result<(), CircuitFault>
 }
 
 /// Reads a job file into a lent job, which is written whole once every check has passed, and is else left as it was.
+#[tactic(auto, using(crate::proofs::Whole::law_of))]
 pub fn read(file: &[u8], job: &mut Job) -> Result<(), CircuitFault>
     ensures answer { answered result job.new ≡ job_of file.now }
     ensures law { Exactly file.now (answered result job.new) }

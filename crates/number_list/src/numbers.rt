@@ -22,6 +22,7 @@ impl Numbers {
     }
 
     /// No number.
+    #[tactic(auto, using(rising::proofs::Rising::listed_none))]
     pub fn none() -> Numbers
         ensures len { result.len ≡ 0 }
         ensures members { (k : ℕ) → listed result.at result.len k ≡ false }
@@ -33,6 +34,7 @@ impl Numbers {
     }
 
     /// The number n alone, and none where it is above 191.
+    #[tactic(auto, using(rising::proofs::Rising::listed_one))]
     pub fn only(n: u8) -> Numbers
         ensures { (k : ℕ) → listed result.at result.len k ≡ (k == n && nat_lt n 192) }
     {

@@ -81,6 +81,7 @@ fn read_complex(s: Unread, opening: Opening) -> Result<(Function, Unread), FileF
 }
 
 // The inverted masks of products, all 0 where none follow.
+#[tactic(auto, using(crate::proofs::Masks::masks_absent, crate::proofs::Masks::masks_present))]
 fn read_masks(
     s: Unread,
     opening: Opening,

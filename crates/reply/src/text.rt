@@ -22,6 +22,7 @@ fn add_line(heap: Global, text: &mut String, number: u8, fault: Fault) -> Result
 }
 
 // The counts of a job.
+#[tactic(auto, unfolding(crate::specs::Replies::counts_text))]
 fn counts(heap: Global, netlist: &Netlist, faults: u8) -> Result<String, AllocError>
     ensures { IfOk result (λ text. string_bytes text ≡ counts_text netlist.now faults) }
 {

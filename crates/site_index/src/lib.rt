@@ -56,7 +56,7 @@ impl SiteIndex {
     ghost use Rattle.std.specs.List.{slice_get};
 
     /// The index of a list. A fault on a site that no circuit has is left out of the tables.
-    #[tactic(auto, using(crate::proofs::Tables::right_more, crate::proofs::Tables::right_still))]
+    #[tactic(auto, using(crate::proofs::Tables::right_none, crate::proofs::Tables::tables, crate::proofs::Tables::right_more, crate::proofs::Tables::right_still))]
     pub fn of(list: &FaultList) -> SiteIndex
         ensures { result.list ≡ list.now }
     {

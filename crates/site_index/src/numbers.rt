@@ -22,7 +22,7 @@ impl Iterator for NumbersAt<'_> {
 
     ghost remaining = { item_count numbers_left };
 
-    #[tactic(auto, using(crate::proofs::Following::one_number, crate::proofs::Following::next_placed))]
+    #[tactic(auto, using(crate::proofs::Following::placed_below, crate::proofs::Following::one_number, crate::proofs::Following::next_placed))]
     fn next(&mut self) -> Option<u8> {
         let n = self.next?;
         self.next = self.index.next[n as usize];

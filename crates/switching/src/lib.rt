@@ -33,11 +33,13 @@ pub fn every_order_is_covered()
 {}
 
 /// That a hold of one turn fewer would not be enough.
+#[tactic(auto, using(crate::proofs::Examples::fewer_turns_fail))]
 pub fn fewer_turns_fail()
     ensures { FewerTurnsFail }
 {}
 
 /// What the procedure gives on some small circuits, good and faulty.
+#[tactic(auto, using(crate::proofs::Examples::examples_hold))]
 pub fn examples_hold()
     ensures { ExamplesHold }
 {}

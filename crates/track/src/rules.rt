@@ -80,6 +80,7 @@ impl<S: FaultSet> Track<S> {
 }
 
 /// That the rules for several parts can be followed two parts at a time. The call does nothing: its contract is the theorem.
+#[tactic(auto, using(crate::proofs::Folds::rules_fold))]
 pub fn rules_fold()
     ensures { RulesFold }
 {}

@@ -1,4 +1,4 @@
-use Rattle.std.proofs.Common.{◌+◌, List, set, sym, ap, ◌∙◌, subst, subst₂, arith}
+use Rattle.std.proofs.Common.{◌≡◌, ◌+◌, List, set, sym, ap, ◌∙◌, subst, subst₂, arith}
 use Rattle.track.specs.declared.table.Line.{Line}
 use Rattle.phases.specs.declared.changes.Changes.{Changes}
 use Rattle.phases.specs.Reads.{changed_at, read_by}
@@ -26,5 +26,10 @@ loop-k-preserved g c =
           (none_committed m P read first c.loop-k.k c.loop-k.lines c.loop-k.next.line c.loop-k.next.idle c.loop-k.invariant (sym c.read_by.ensures ∙ w.if-read_by.false))
     ]
 
-pub returns-clause-elsewhere : goal.returns-clause-elsewhere
-returns-clause-elsewhere g c = λ j off. c.loop-k.invariant.elsewhere j (λ i lt r at. off i (omega arith) r (omega (arith, c.inputs-inputs.ensures)))
+pub returns : goal.returns
+returns g c =
+    let m = g.S.FaultSet.member in
+    let read = read_by (changed_at c.args.self.now.changes.now.line) c.args.self.now.circuit.now.netlist in
+    let e : c.loop-k.k ≡ c.args.self.now.circuit.now.netlist.gates = omega (arith, c.gates-k-end.ensures) in
+    let h = subst₂ (λ (P k : ℕ). Committed m P read c.args.lines.now k c.loop-k.lines c.loop-k.next.line c.loop-k.next.idle) c.inputs-inputs.ensures e c.loop-k.invariant in
+    record { elsewhere = h.elsewhere; rows = h.taken; changed = h.unchanged; idle = h.is_idle }

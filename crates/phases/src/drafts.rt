@@ -38,6 +38,7 @@ impl<'a> Pass<'a> {
         ensures drafts { (n k : ℕ) → k < self.now.circuit.now.netlist.gates → read_by (changed_at self.now.changes.now.line) self.now.circuit.now.netlist k ≡ true → draft_at S.member lines.new n (self.now.circuit.now.netlist.inputs + k) ≡ tracks_of (next_of S.member self.now.circuit.now self.now.index.now.list self.now.phase lines.old n k) }
     {
         let inputs = self.circuit.inputs();
+        // Kept, no plainer: the gate's view is made by its number, while a walk over the rows would hold them all.
         for k in 0..self.circuit.gates() {
             if self.changes.read_by(self.circuit, k) {
                 let gate = GateView::new(self.circuit, self.index, lines, Reading::Whole, k);

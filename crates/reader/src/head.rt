@@ -13,6 +13,7 @@ use refusal::FileFault;
 use std::array;
 
 // Whether start values and faults are given, the counts, the outputs and the start values.
+// Kept, rule of the project: nothing is allocated, so outputs and start values are the fixed tables of the netlist that they go to.
 #[derive(Clone, Copy)]
 pub(crate) struct Head {
     pub with_start: bool,

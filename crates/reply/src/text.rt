@@ -57,6 +57,7 @@ pub fn reply(heap: Global, input: &[u8]) -> Result<String, AllocError>
     ensures { IfOk result (λ text. string_bytes text ≡ reply_text input.now) }
 {
     let mut job = Job::built_in();
+    // Kept, no plainer: the two outcomes are two texts, and neither goes up.
     match take_in(input, &mut job) {
         Ok(()) => list(heap, &job),
         Err(fault) => format!(in heap; "{fault}\n"),

@@ -62,6 +62,7 @@ impl SiteIndex {
     {
         let mut first = [None; 432];
         let mut next = [None; 192];
+        // Kept, no plainer: the number of the fault is what the tables are given.
         for n in (0..192u8).rev() {
             if let Some(place) = fault_place(list, n) {
                 next[n as usize] = first[place];

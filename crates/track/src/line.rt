@@ -7,6 +7,7 @@ use fault_set::set::FaultSet;
 use ternary::Value;
 
 // The value that two answers mean.
+// Kept, no plainer: a conversion, `From`, would need a type for two answers, which nothing else uses.
 fn meant(one: bool, zero: bool) -> Value
     ensures { result ≡ meaning one zero }
 {
@@ -26,6 +27,7 @@ impl<S: FaultSet> Line<S> {
         meant(self.held.one.answer(n), self.held.zero.answer(n))
     }
 
+    // Kept, no plainer: one call for this and `value` would take an Option of a number, and ask every caller for it.
     /// Its value in the good circuit.
     #[tactic(auto, using(crate::proofs::Meant::value_whole))]
     pub fn good_value(&self) -> Value

@@ -1,4 +1,4 @@
-use Rattle.std.proofs.Common.{◌≡◌, ◌+◌, List, set, sym, ap, ◌∙◌, subst, subst₂, arith}
+use Rattle.std.proofs.Common.{◌≡◌, ℕ, ◌+◌, List, set, sym, ap, ◌∙◌, subst, subst₂, arith}
 use Rattle.track.specs.declared.table.Line.{Line}
 use Rattle.phases.specs.declared.changes.Changes.{Changes}
 use Rattle.phases.specs.Reads.{changed_at, read_by}

@@ -17,6 +17,7 @@ struct Making {
     fault: [Fault; 192],
 }
 
+// Kept, no plainer: each call asks for the room that it needs itself, and the three bounds differ.
 impl Making {
     // One fault more, kept where there is room.
     fn add(&mut self, fault: Fault)

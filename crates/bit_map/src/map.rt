@@ -91,6 +91,7 @@ impl FaultSet for BitMap {
     }
 }
 
+// Kept, no plainer: each kind keeps its own bound, on which its law rests; one for both would be a test in a third crate.
 // Whether n is the number of a fault.
 fn is_number(n: u8) -> bool
     ensures { result ≡ nat_lt n 192 }

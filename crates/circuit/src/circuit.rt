@@ -50,15 +50,15 @@ impl Circuit {
     pub fn at_rest(design: Design) -> Result<Circuit, u8>
         ensures { MatchResult result (λ c. (c.netlist ≡ design.netlist) × (restless design.netlist ≡ None)) (λ line. restless design.netlist ≡ Some line) }
     {
-        // Kept, no plainer: no call of Option makes an error of what it holds.
-        match design.first_restless() {
-            Some(line) => Err(line),
-            None => Ok(Circuit {
-                netlist: *design.netlist(),
-            }),
+        if let Some(line) = design.first_restless() {
+            return Err(line);
         }
+        Ok(Circuit {
+            netlist: *design.netlist(),
+        })
     }
 
+    // Kept, no plainer: k comes from a range over the gates; a type for a gate of a circuit would be made and taken apart at each call.
     // The value of gate k's function when its own line has `own`.
     fn drives_beside(&self, fault: Option<Fault>, lines: &[Value; 48], own: Value, k: u8) -> Value
         requires { k < self.now.netlist.gates }

@@ -29,6 +29,7 @@ impl Design {
         &self.netlist
     }
 
+    // Kept, no plainer: k comes from a range over the gates; a type for a gate of a design would be made and taken apart at each call.
     // What gate k drives at the start.
     fn drives_at_start(&self, k: u8) -> bool
         requires { k < self.now.netlist.gates }

@@ -27,7 +27,7 @@ struct AtGate<'a, T: Signal, P: Fn(u8) -> T> {
     pin: &'a P,
 }
 
-// Kept, proof did not close: each method asks that the pins can be read, since a ghost field cannot yet cite what a closure asks.
+// Kept, proof did not close: the check takes no ghost field that cites what a closure asks, so each method asks that the pins can be read.
 impl<T: Signal, P: Fn(u8) -> T> AtGate<'_, T, P> {
     // Pin j, inverted where the mask has bit j.
     #[tactic(auto, unfolding(crate::specs::Gates::literal))]

@@ -1,6 +1,6 @@
 // Gates as a netlist gives them: plain values, with no invariant of their own.
 
-// Kept, rule of the project: nothing is allocated, so a sum is fixed rows with a count; they lie as in a job file, all used masks before the inverted ones.
+// Kept, rule of the project: nothing is allocated, so a sum is fixed rows with a count, and as in a job file all used masks stand before the inverted ones.
 /// An OR of products. Product p is the AND of the pins in its used mask, each inverted where its other mask has a bit; bit j is pin j.
 #[derive(Clone, Copy)]
 pub struct Sum {

@@ -7,8 +7,8 @@ use crate::byte::{Field, low_bits};
 use crate::unread::Unread;
 use refusal::FileFault;
 
-// Kept, no plainer: `row_of row count` promises a row by its name, where a closure has a promise only over all that it may give
 /// What a row of bytes holds.
+// Kept, no plainer: promises speak of a row by its name, as in `row_of row count`; of a closure they could only speak through what it answers.
 #[derive(Clone, Copy)]
 pub enum Row {
     /// Gate lines, each above the one before.
@@ -24,6 +24,7 @@ pub enum Row {
 }
 
 impl Row {
+    // Kept, no plainer: a row has eight places, and a type for counts up to eight would be made of a byte at each read.
     // The field of the byte after these.
     fn field(&self, before: &[u8]) -> Field
         requires { length before.now < 8 }

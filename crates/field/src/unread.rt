@@ -71,7 +71,7 @@ impl<'a> Unread<'a> {
         ensures refused { OnErr result (BrokenOff (F.post read) table.old self.entry table.new) }
     {
         let mut left = self;
-        // Kept, no plainer: each thing is read in the light of those before it, so where it goes says which these are
+        // Kept, no plainer: the step is shown the places before, which an iterator over the places would hold.
         for at in 0..table.len() {
             let (thing, rest) = read(&table[..at], left)?;
             table[at] = thing;

@@ -34,7 +34,7 @@ fn job_of(file: &[u8]) -> Result<Job, CircuitFault>
     let (parts, rest) = read_parts(file)?;
     if !rest.is_empty() {
         let place = rest.place();
-        return Err(CircuitFault::File(FileFault::Overlong(place)));
+        return Err(FileFault::Overlong(place).into());
     }
     let design = Design::of(parts.netlist);
     let faults = faults_of(&design, parts.faults)?;

@@ -128,7 +128,8 @@ impl Numbers {
     }
 }
 
-/// Whether a set can have n.
+/// Kept, no plainer: each kind keeps its own bound, on which its law rests; one for both would be a test in a third crate.
+// Whether a set can have n.
 pub fn is_number(n: u8) -> bool
     ensures { result ≡ nat_lt n 192 }
 {

@@ -20,7 +20,7 @@ impl<'a> Pass<'a> {
     {
         let inputs = self.circuit.inputs();
         let mut next = Changes::none();
-        // Kept, no plainer: the number of the gate is asked for, and its row and its line's mark are then found by it.
+        // Kept, no plainer: the gate is asked for by its number, and by a zip with the rows its line would still be marked by it.
         for k in 0..self.circuit.gates() {
             if self.changes.read_by(self.circuit, k) {
                 let same = lines[(inputs + k) as usize].take_draft();

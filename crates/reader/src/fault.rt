@@ -11,6 +11,7 @@ use field::unread::Unread;
 use refusal::FileFault;
 
 // A fault's record, in a circuit with these inputs and gates.
+// Kept, no plainer: the counts are in range before there is a circuit whose type says so, and the two readers of faults ask it.
 fn read_fault<'a>(s: Unread<'a>, netlist: &Netlist) -> Result<(Fault, Unread<'a>), FileFault>
     requires { (netlist.now.inputs ≤ 8) × (netlist.now.gates ≤ 40) }
     ensures { ReadAs (λ f. f) (fault_of netlist.now.inputs (netlist.now.inputs + netlist.now.gates) netlist.now.gate) s.entry result }

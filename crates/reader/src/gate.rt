@@ -30,6 +30,7 @@ fn least_pins(complex: bool) -> u8
 }
 
 // Reads a record's opening: a byte that is there and wrong comes before one that is missing.
+// Kept, rule of the project: the record is opened by one slice pattern that names its first bytes and the rest.
 fn read_opening(s: Unread) -> Result<(Opening, Unread), FileFault>
     ensures { ReadAs (λ o. (map_of o.complex o.masks, o.pins)) opening_of s.entry result }
 {
@@ -81,6 +82,7 @@ fn read_complex(s: Unread, opening: Opening) -> Result<(Function, Unread), FileF
 }
 
 // The inverted masks of products, all 0 where none follow.
+// Kept, rule of the project: nothing is allocated, so used masks are the fixed row of the sum that they go to, with its count.
 #[tactic(auto, using(crate::proofs::Masks::masks_absent, crate::proofs::Masks::masks_present))]
 fn read_masks(
     s: Unread,

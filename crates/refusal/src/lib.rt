@@ -134,7 +134,7 @@ impl GradingFault {
             | GradingFault::Race(line) => usize::from(line),
             GradingFault::Small(rows) => rows,
             GradingFault::Input(bit) => usize::from(bit),
-            // Kept, rule of the project: 255 is printed where a ground has no place
+            // Kept, rule of the project: 255 is the place that a full grading prints.
             GradingFault::Full => 255,
             GradingFault::Unknown(number) => usize::from(number),
             GradingFault::Narrow(bytes) => bytes,

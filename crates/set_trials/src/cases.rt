@@ -6,7 +6,7 @@ use number_list::list::NumberList;
 use std::process::Abort;
 
 /// What is done to the first set.
-// Kept, no plainer: a step is a word in a row of a table that serves every kind, and a closure is made for one.
+// Kept, no plainer: the table of cases serves every kind of set, and a closure in it would have to be of one kind.
 #[derive(Clone, Copy)]
 enum Step {
     Nothing,

@@ -36,6 +36,7 @@ impl Value {
         }
     }
 
+    // Kept, no plainer: as NOT of an AND of NOTs it would hide its own table.
     /// 1 if a part is 1, 0 if both are 0, else 2.
     pub fn or(self, other: Value) -> Value
         ensures { result ≡ or₃ self other }

@@ -7,7 +7,7 @@ use fault_set::set::FaultSet;
 use ternary::Value;
 
 // The value that two answers mean.
-// Kept, no plainer: a conversion, `From`, would need a type for two answers, which nothing else uses.
+// Kept, no plainer: a `From` for the pair would have to stand in ternary, below the definition that it cites.
 fn meant(one: bool, zero: bool) -> Value
     ensures { result ≡ meaning one zero }
 {

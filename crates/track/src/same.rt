@@ -17,6 +17,7 @@ impl<S: FaultSet> Track<S> {
 
 impl<S: FaultSet> Tracks<S> {
     /// Whether every circuit has the same two answers in both.
+    // Kept, no plainer: as for one track.
     pub fn same(&self, other: &Tracks<S>) -> bool
         ensures { Decides result ((n : ℕ) → answers S.member self.now n ≡ answers S.member other.now n) }
     {

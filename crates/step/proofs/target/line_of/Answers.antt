@@ -1,7 +1,6 @@
 use Rattle.std.proofs.Common.{Option, sym, ap, ◌∙◌, arith}
 use Rattle.ternary.specs.Logics.{by_tracks}
 use Rattle.ternary.proofs.Keeps.{tracks_kept}
-use Rattle.circuit.specs.declared.site.Site.TheVariants.{Stem}
 use Rattle.circuit.specs.declared.site.Fault.{Fault}
 use Rattle.circuit.specs.Chips.{stuck_at, seen}
 use Rattle.track.specs.Answers.{answers}
@@ -15,6 +14,6 @@ returns-clause-good g c =
     let m = g.S.FaultSet.member in
     sym (answers_good m g.met.S.FaultSet.within 192 (omega arith) c.stick.new.tracks)
     ∙ c.stick.ensures 192
-    ∙ ap (λ (f : Option Fault). seen by_tracks.const (stuck_at f (Stem c.args.i)) (answers m c.constant-tracks.result 192)) (fault_past c.args.index.now.list 192 (omega arith))
+    ∙ ap (λ (f : Option Fault). seen by_tracks.const (stuck_at f _) (answers m c.constant-tracks.result 192)) (fault_past c.args.index.now.list 192 (omega arith))
     ∙ c.constant-tracks.ensures 192
     ∙ tracks_kept.const c.args.bit

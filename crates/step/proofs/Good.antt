@@ -1,8 +1,14 @@
 -- The good circuit is that of any number above 191.
-use Rattle.std.proofs.Common.{◌≡◌, ℕ, ◌+◌, ◌≤◌, Bool, true, false, List, refl, ap, ◌∙◌, ap₂}
+use Rattle.std.proofs.Common.{◌≡◌, ℕ, ◌+◌, ◌≤◌, Bool, true, false, List, Option, refl, sym, ap, ◌∙◌, ap₂, arith}
 use mathlib.Core.Path.{fun_ext}
 use Rattle.ternary.specs.declared.Value.{Value}
-use Rattle.ternary.specs.Logics.{Tracks as Pair}
+use Rattle.ternary.specs.Logics.{Tracks as Pair, by_tracks}
+use Rattle.circuit.specs.declared.site.Site.{Site}
+use Rattle.circuit.specs.declared.site.Fault.{Fault}
+use Rattle.circuit.specs.declared.site.FaultList.{FaultList}
+use Rattle.circuit.specs.Chips.{stuck_at, seen}
+use Rattle.site_index.specs.Sites.{fault_of}
+use Rattle.site_index.proofs.Leading.{fault_past}
 use Rattle.track.specs.declared.table.Line.{Line}
 use Rattle.track.specs.declared.table.Tracks.{Tracks}
 use Rattle.track.specs.Answers.{unless, answers, goods, whole, value}
@@ -31,3 +37,11 @@ module _ {S : Type 0} (m : S → ℕ → Bool) (within : (s : S) (n : ℕ) → 1
   reading_good inputs lines = ap₂ (λ (f g : ℕ → Value). record { input = f; gate = g })
       (fun_ext (λ i. ap value (held_good lines i)))
       (fun_ext (λ k. ap value (held_good lines (inputs + k))))
+
+-- a fault's value that is given at a site leaves the good circuit as it was
+pub stuck_good : {S : Type 0} (m : S → ℕ → Bool) → ((s : S) (n : ℕ) → 192 ≤ n → m s n ≡ false) → (list : FaultList) (site : Site) (old new : Tracks S)
+    → ((n : ℕ) → answers m new n ≡ seen by_tracks.const (stuck_at (fault_of list n) site) (answers m old n)) → goods new ≡ answers m old 192
+stuck_good m within list site old new e =
+    sym (answers_good m within 192 (omega arith) new)
+    ∙ e 192
+    ∙ ap (λ (f : Option Fault). seen by_tracks.const (stuck_at f site) (answers m old 192)) (fault_past list 192 (omega arith))

@@ -1,7 +1,7 @@
 // What the lines are to be in all circuits at once.
 ghost use Rattle.std.specs.Prelude.{◌≡◌, ℕ, ◌+◌, ◌<◌, ◌≤◌, None};
 ghost use Rattle.ternary.specs.Values.{of};
-ghost use Rattle.ternary.specs.Logics.{tracks as tracks_of};
+ghost use Rattle.ternary.specs.Logics.{by_tracks, tracks as tracks_of};
 ghost use Rattle.circuit.specs.Chips.{stuck_at, seen};
 ghost use Rattle.switching.specs.Chips.{chip};
 ghost use Rattle.switching.specs.Phases.{target as target_in};
@@ -24,8 +24,15 @@ impl<S: FaultSet> GateView<'_, S> {
         ensures good { goods result ≡ tracks_of (target_in (chip self.now.circuit.now.netlist None) (good_reading self.now.circuit.now.netlist.inputs self.now.lines.now) self.now.k) }
     {
         let mut tracks = self.driven();
-        stick(&mut tracks, self.index, Site::Stem(self.line()));
+        self.stick_line(&mut tracks);
         tracks
+    }
+
+    // Gives each circuit whose fault sits on its line the stuck value, and leaves the others.
+    fn stick_line(&self, tracks: &mut Tracks<S>)
+        ensures { (n : ℕ) → answers S.member tracks.new n ≡ seen by_tracks.const (stuck_at (fault_of self.now.index.now.list n) (Site.Stem (self.now.circuit.now.netlist.inputs + self.now.k))) (answers S.member tracks.old n) }
+    {
+        stick(tracks, self.index, Site::Stem(self.line()));
     }
 }
 

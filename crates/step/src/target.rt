@@ -1,4 +1,4 @@
-// What the lines are to be in all circuits at once.
+// What a gate's line is to be in all circuits at once.
 ghost use Rattle.std.specs.Prelude.{◌≡◌, ℕ, ◌+◌, ◌<◌, ◌≤◌, None};
 ghost use Rattle.ternary.specs.Values.{of};
 ghost use Rattle.ternary.specs.Logics.{by_tracks, tracks as tracks_of};
@@ -34,16 +34,4 @@ impl<S: FaultSet> GateView<'_, S> {
     {
         stick(tracks, self.index, Site::Stem(self.line()));
     }
-}
-
-/// A line that is to be at 0 or 1, where it is not stuck; `like` only lends sets to begin with.
-/// Public only for the layers above, which go through the lines of a circuit.
-pub fn line_of<S: FaultSet>(index: &SiteIndex, like: &Tracks<S>, i: u8, bit: bool) -> Tracks<S>
-    requires { i < 48 }
-    ensures faulty { (n : ℕ) → answers S.member result n ≡ tracks_of (seen of (stuck_at (fault_of index.now.list n) (Site.Stem i)) (of bit)) }
-    ensures good { goods result ≡ tracks_of (of bit) }
-{
-    let mut tracks = like.constant(bit);
-    stick(&mut tracks, index, Site::Stem(i));
-    tracks
 }

@@ -1,7 +1,7 @@
 use Rattle.std.proofs.Common.{◌∙◌}
 use Rattle.ternary.proofs.Keeps.{tracks_kept}
 use Rattle.step.proofs.Good.{stuck_good}
-use Rattle.step.proofs.target.line_of.Goals as goal
+use Rattle.step.proofs.rows.line_of.Goals as goal
 
 -- the good circuit is that of number 192, which no fault has
 pub returns-clause-good : goal.returns-clause-good

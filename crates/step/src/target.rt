@@ -1,6 +1,5 @@
 // What a gate's line is to be in all circuits at once.
-ghost use Rattle.std.specs.Prelude.{◌≡◌, ℕ, ◌+◌, ◌<◌, ◌≤◌, None};
-ghost use Rattle.ternary.specs.Values.{of};
+ghost use Rattle.std.specs.Prelude.{◌≡◌, ℕ, ◌+◌, None};
 ghost use Rattle.ternary.specs.Logics.{by_tracks, tracks as tracks_of};
 ghost use Rattle.circuit.specs.Chips.{stuck_at, seen};
 ghost use Rattle.switching.specs.Chips.{chip};
@@ -13,8 +12,6 @@ use crate::gate::GateView;
 use crate::rows::stick;
 use circuit::site::Site;
 use fault_set::set::FaultSet;
-use site_index::SiteIndex;
-use ternary::signal::Signal;
 use track::table::Tracks;
 
 impl<S: FaultSet> GateView<'_, S> {

@@ -3,7 +3,7 @@ use Rattle.std.proofs.Common.{◌≡◌, ℕ, zero, suc, ◌+◌, ◌-◌, ◌*�
 use lib.Bits.{bit_and, bit_or, and_mask, and_shr, or_shr, and_mod, or_mod}
 use lib.Count.{ones, ones_cat}
 use Rattle.std.proofs.lemmas.Bool.{ne_eqb, eq-eqb}
-use Rattle.std.proofs.lemmas.Nat.{one_shl, shr-shr, mod-pow-add}
+use Rattle.std.proofs.lemmas.Nat.{shr-shr, mod-pow-add}
 use Rattle.std.proofs.lemmas.Bool.Decides.{nat_tests}
 use Rattle.fault_set.specs.Members.{one, tally}
 use Rattle.bit_map.specs.Bits.{bit}
@@ -58,19 +58,12 @@ bit_none zero = refl
 bit_none (suc j) = bit_half 0 j ∙ bit_none j
 
 -- a power of two has one bit
-bit_pow : (i j : ℕ) → bit (2 ^ i) j ≡ eqb j i
+pub bit_pow : (i j : ℕ) → bit (2 ^ i) j ≡ eqb j i
 unfolding bit
 bit_pow zero zero = refl
 bit_pow zero (suc j) = bit_half 1 j ∙ bit_none j ∙ sym (ne_eqb (suc j) 0 (λ e. omega arith))
 bit_pow (suc i) zero = bit_low (2 ^ suc i) ∙ ne_eqb (2 ^ suc i % 2) 1 (λ e. omega (arith, pow-suc 2 i)) ∙ sym (ne_eqb 0 (suc i) (λ e. omega arith))
 bit_pow (suc i) (suc j) = bit_half (2 ^ suc i) j ∙ ap (λ (x : ℕ). bit x j) (omega (arith, pow-suc 2 i)) ∙ bit_pow i j ∙ grind (arith, nat_tests)
-
--- `1 << j` in a word of 64 bits
-abbrev pub mask : ℕ → ℕ
-mask j = (1 * 2 ^ j) % 2 ^ 64
-
-pub bit_mask : (j k : ℕ) → j < 64 → bit (mask j) k ≡ eqb k j
-bit_mask j k h = ap (λ (x : ℕ). bit x k) (one_shl j 64 h) ∙ bit_pow j k
 
 -- `!a` in a word of k bits
 not_one : (x y : ℕ) → x < 2 → y + x ≡ 1 → eqb y 1 ≡ not (eqb x 1)

@@ -60,7 +60,7 @@ pub least_from : (w from j : ℕ) → from ≤ j → j < from + count_trailing_z
 least_from w from j h l = from_shifted w from j h ∙ trailing_least 64 (w / 2 ^ from) (j - from) (omega arith)
 
 -- a set bit lies within the word
-set_below : (w j : ℕ) → w < 2 ^ 64 → bit w j ≡ true → j < 64
+pub set_below : (w j : ℕ) → w < 2 ^ 64 → bit w j ≡ true → j < 64
 set_below w j h b = ⊎_elim (λ (q : j < 64). q) (λ (q : 64 ≤ j). absurd (both_ways (bit w j) (bit_past w 64 j h q) b)) (cases_lt j 64)
 
 pub found_from : (w from : ℕ) → w < 2 ^ 64 → (w / 2 ^ from ≡ 0 → ⊥) →

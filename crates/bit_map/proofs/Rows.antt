@@ -30,22 +30,24 @@ words_same ws vs p q w v e =
     (λ i h. bits_same 64 (get_or ws i 0) (get_or vs i 0) (w i (omega arith)) (v i (omega arith)) (λ j l. sym (at_word ws i j (omega arith) l) ∙ e (64 * i + j) ∙ at_word vs i j (omega arith) l))
 
 -- the numbers are counted word by word
-pub held_tally : (ws : List ℕ) → length ws ≡ 3 → ((i : ℕ) → i < 3 → get_or ws i 0 < 2 ^ 64) → sum_by ones ws ≡ tally (in_words ws) 192
-held_tally [] h w = absurd (omega arith)
-held_tally (a ∷ []) h w = absurd (omega arith)
-held_tally (a ∷ b ∷ []) h w = absurd (omega arith)
-held_tally (a ∷ b ∷ c ∷ d ∷ xs) h w = absurd (omega arith)
-held_tally (a ∷ b ∷ c ∷ []) h w =
-    let p = in_word 0 (omega arith) in
-    let q = in_word 1 (omega arith) in
-    let r = in_word 2 (omega arith) in
+pub held_tally : (ws : List ℕ) → get_or ws 0 0 < 2 ^ 64 → get_or ws 1 0 < 2 ^ 64 → get_or ws 2 0 < 2 ^ 64 →
+    ones (get_or ws 0 0) + ones (get_or ws 1 0) + ones (get_or ws 2 0) ≡ tally (in_words ws) 192
+held_tally ws p q r =
+    let a = in_word 0 (omega arith) p in
+    let b = in_word 1 (omega arith) q in
+    let d = in_word 2 (omega arith) r in
     let two : tally (in_words ws) 192 ≡ tally (in_words ws) 128 + tally (λ j. in_words ws (128 + j)) 64 = tally_split (in_words ws) 128 64 in
     let one : tally (in_words ws) 128 ≡ tally (in_words ws) 64 + tally (λ j. in_words ws (64 + j)) 64 = tally_split (in_words ws) 64 64 in
     let none : tally (λ j. in_words ws (64 * 0 + j)) 64 ≡ tally (in_words ws) 64 = tally_same (λ j. in_words ws (64 * 0 + j)) (in_words ws) 64 (λ j _. ap (in_words ws) (zero-add j)) in
     omega arith
   where
-    ws : List ℕ
-    ws = a ∷ b ∷ c ∷ []
+    in_word : (i : ℕ) → i < 3 → get_or ws i 0 < 2 ^ 64 → ones (get_or ws i 0) ≡ tally (λ j. in_words ws (64 * i + j)) 64
+    in_word i h l = ap ones (sym (mod-eq_of_lt l)) ∙ ones_tally 64 (get_or ws i 0) ∙ tally_same (bit (get_or ws i 0)) (λ j. in_words ws (64 * i + j)) 64 (λ j m. sym (at_word ws i j h m))
 
-    in_word : (i : ℕ) → i < 3 → ones (get_or ws i 0) ≡ tally (λ j. in_words ws (64 * i + j)) 64
-    in_word i l = ap ones (sym (mod-eq_of_lt (w i l))) ∙ ones_tally 64 (get_or ws i 0) ∙ tally_same (bit (get_or ws i 0)) (λ j. in_words ws (64 * i + j)) 64 (λ j m. sym (at_word ws i j l m))
+-- a sum over three words is the sum of the three
+pub three_ones : (ws : List ℕ) → length ws ≡ 3 → sum_by ones ws ≡ ones (get_or ws 0 0) + ones (get_or ws 1 0) + ones (get_or ws 2 0)
+three_ones [] h = absurd (omega arith)
+three_ones (a ∷ []) h = absurd (omega arith)
+three_ones (a ∷ b ∷ []) h = absurd (omega arith)
+three_ones (a ∷ b ∷ c ∷ []) h = omega arith
+three_ones (a ∷ b ∷ c ∷ d ∷ xs) h = absurd (omega arith)

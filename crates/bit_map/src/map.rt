@@ -1,5 +1,5 @@
 // The bit map as a fault set.
-ghost use Rattle.std.specs.Prelude.{◌≡◌, ℕ, false, ◌&&◌, ◌==◌, nat_lt};
+ghost use Rattle.std.specs.Prelude.{◌≡◌, ℕ, false, nat_lt};
 ghost use Rattle.bit_map.specs.Bits.{in_words};
 ghost use Rattle.std.proofs.Common.{rules};
 
@@ -21,17 +21,6 @@ impl BitMap {
         BitMap { words: [0; 3] }
     }
 
-    // The set of n alone, and with no member where n is above 191.
-    #[tactic(auto, using(crate::proofs::Digits::bit_none, crate::proofs::Digits::bit_mask))]
-    fn only(n: u8) -> BitMap
-        ensures { (k : ℕ) → in_words result.words k ≡ (k == n && nat_lt n 192) }
-    {
-        let word = |i| if n / 64 == i { 1 << (n % 64) } else { 0 };
-        BitMap {
-            words: [word(0), word(1), word(2)],
-        }
-    }
-
     /// The set of the numbers that three words hold: number n by bit n % 64 of word n / 64.
     pub fn from_words(words: [u64; 3]) -> BitMap
         ensures { (k : ℕ) → in_words result.words k ≡ in_words words k }
@@ -49,13 +38,15 @@ impl FaultSet for BitMap {
         *self = BitMap::empty();
     }
 
+    #[tactic(auto, using(crate::proofs::Digits::bit_of_or, crate::proofs::Digits::bit_pow))]
     fn add(&mut self, n: u8) -> bool {
-        self.unite(&BitMap::only(n));
+        words::change(&mut self.words, n, |word, one| word | one);
         is_number(n)
     }
 
+    #[tactic(auto, using(crate::proofs::Digits::bit_and_not, crate::proofs::Digits::bit_pow))]
     fn remove(&mut self, n: u8) -> bool {
-        self.take_away(&BitMap::only(n));
+        words::change(&mut self.words, n, |word, one| word & !one);
         is_number(n)
     }
 

@@ -1,5 +1,5 @@
 // Three words of 64 bits, and the numbers that they hold.
-ghost use Rattle.std.specs.Prelude.{◌≡◌, ℕ, ◌<◌, IfSome, ◌&&◌, false, Decides, ◌==◌, nat_lt, slice_index};
+ghost use Rattle.std.specs.Prelude.{◌≡◌, ◌≢◌, ℕ, ◌<◌, ◌/◌, ◌%◌, ◌^◌, IfSome, ◌&&◌, false, Decides, ◌==◌, nat_lt, slice_index};
 ghost use Rattle.fault_set.specs.Members.{tally};
 ghost use Rattle.bit_map.specs.Bits.{bit, in_words, IsLowest};
 
@@ -22,6 +22,19 @@ pub(crate) fn combine<F: Fn(u64, u64) -> u64>(left: [u64; 3], right: [u64; 3], r
     [rule(a, x), rule(b, y), rule(c, z)]
 }
 
+// Changes the word that n stands in by a rule of that word and of the word with n's bit alone; above 191 there is none.
+#[tactic(auto, using(std::proofs::lemmas::Nat::one_shl))]
+pub(crate) fn change<F: Fn(u64, u64) -> u64>(words: &mut [u64; 3], n: u8, rule: F)
+    requires { F.IsAlwaysCallable rule }
+    ensures there { n < 192 → F.post rule (slice_index words.old (n / 64)) (2 ^ (n % 64)) (slice_index words.new (n / 64)) }
+    ensures others { (i : ℕ) → (i ≢ n / 64) → slice_index words.new i ≡ slice_index words.old i }
+{
+    let place = usize::from(n / 64);
+    if place < words.len() {
+        words[place] = rule(words[place], 1 << (n % 64));
+    }
+}
+
 // Whether both hold the same.
 pub(crate) fn alike(left: &[u64; 3], right: &[u64; 3]) -> bool
     ensures { Decides result ((k : ℕ) → in_words left.now k ≡ in_words right.now k) }
@@ -34,11 +47,13 @@ pub(crate) fn lowest(words: &[u64; 3], n: u8) -> Option<u8>
     ensures low { IfSome result (λ m. m < 192) }
     ensures value { IsLowest (in_words words.now) n result }
 {
-    for (i, word) in words.iter().enumerate() {
-        let base = i as u8 * 64;
-        if let Some(place) = lowest_bit(*word, n.saturating_sub(base)) {
+    let mut from = n;
+    for word in &words[usize::from(n / 64)..] {
+        let base = from / 64 * 64;
+        if let Some(place) = lowest_bit(*word, from % 64) {
             return Some(base + place);
         }
+        from = base + 64;
     }
     None
 }

@@ -65,8 +65,7 @@ impl SiteIndex {
         // Kept, no plainer: the number of the fault is what the tables are given.
         for n in (0..192u8).rev() {
             if let Some(place) = fault_place(list, n) {
-                next[n as usize] = first[place];
-                first[place] = Some(n);
+                next[n as usize] = first[place].replace(n);
             }
         }
         SiteIndex {

@@ -7,7 +7,11 @@ use Rattle.ternary.proofs.Keeps.{tracks_kept}
 use Rattle.circuit.specs.declared.netlist.Netlist.{Netlist}
 use Rattle.circuit.specs.declared.site.Site.TheVariants.{Stem}
 use Rattle.circuit.specs.declared.site.FaultList.{FaultList}
-use Rattle.circuit.specs.Gates.{driven}
+use Rattle.circuit.specs.declared.gate.Sum.{Sum}
+use Rattle.circuit.specs.declared.gate.Gate.{Gate}
+use Rattle.circuit.specs.declared.gate.Function.TheVariants.{Complex}
+use Rattle.ternary.specs.Logics.{Logic}
+use Rattle.circuit.specs.Gates.{driven, function_of}
 use Rattle.circuit.specs.Netlists.{gate_at, pin_at}
 use Rattle.circuit.specs.Chips.{stuck_at, seen}
 use Rattle.circuit.proofs.Kept.{seen_keeps, driven_in_keeps}
@@ -20,6 +24,11 @@ use Rattle.site_index.specs.Sites.{fault_of}
 use Rattle.step.specs.Rows.{held_at, reading}
 use Rattle.step.specs.Pins.{pin_reads}
 use Rattle.step.proofs.Looks.{held_tracks}
+
+-- a complex gate does not read its own line
+pub shape_alone : {A : Type 0} (L : Logic A) (g : Gate) (s : Sum) (pin : ℕ → A) (a b : A) → g.function ≡ Complex s → driven L g pin a ≡ driven L g pin b
+unfolding driven
+shape_alone L g s pin a b e = ap (function_of L pin a g.pins) e ∙ sym (ap (function_of L pin b g.pins) e)
 
 module _ {S : Type 0} (m : S → ℕ → Bool) (lines : List (Line S)) (n : ℕ) (netlist : Netlist) where
   abbrev A : Lines Value

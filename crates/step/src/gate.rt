@@ -11,7 +11,7 @@ ghost use Rattle.step.specs.Rows.{held_at, WholeRows, Readable};
 use crate::rows::{Reading, stick};
 use circuit::circuit::Circuit;
 use circuit::drive::drives;
-use circuit::gate::Gate;
+use circuit::gate::{Function, Gate};
 use circuit::site::Site;
 use fault_set::set::FaultSet;
 use site_index::SiteIndex;
@@ -106,10 +106,21 @@ impl<'a, S: FaultSet> GateView<'a, S> {
         tracks
     }
 
-    // What its function gives.
+    // What its function gives where its own line has these tracks.
+    fn driven_beside(&self, own: &Tracks<S>) -> Tracks<S>
+        ensures { (n : ℕ) → answers S.member result n ≡ driven by_tracks (gate_at self.now.circuit.now.netlist.gate self.now.k) (pin_reads S.member self.now.circuit.now.netlist self.now.index.now.list self.now.lines.now n self.now.k) (answers S.member own.now n) }
+    {
+        drives(self.gate(), own, |j| self.pin(j))
+    }
+
+    // What its function gives. Of its own line a complex gate takes the shape alone, so that is not read.
+    #[tactic(auto, using(crate::proofs::Gates::shape_alone))]
     pub(crate) fn driven(&self) -> Tracks<S>
         ensures { (n : ℕ) → answers S.member result n ≡ driven by_tracks (gate_at self.now.circuit.now.netlist.gate self.now.k) (pin_reads S.member self.now.circuit.now.netlist self.now.index.now.list self.now.lines.now n self.now.k) (held_at S.member self.now.lines.now n (self.now.circuit.now.netlist.inputs + self.now.k)) }
     {
-        drives(self.gate(), &self.own(), |j| self.pin(j))
+        match self.gate().function {
+            Function::Complex(_) => self.driven_beside(&self.lines[self.line() as usize].held),
+            Function::CElement { .. } => self.driven_beside(&self.own()),
+        }
     }
 }

@@ -117,7 +117,7 @@ module _ {A : Type 0} (L : Logic A) where
       let f = hold_same pin pin' own inverted pins h in
       cc
 
-  driven_same : (g : Gate) (pin pin' : ℕ → A) (own : A) → ((j : ℕ) → j < g.pins → pin j ≡ pin' j) → driven L g pin own ≡ driven L g pin' own
+  pub driven_same : (g : Gate) (pin pin' : ℕ → A) (own : A) → ((j : ℕ) → j < g.pins → pin j ≡ pin' j) → driven L g pin own ≡ driven L g pin' own
   unfolding driven
   driven_same g pin pin' own h = function_same pin pin' own g.pins g.function h
 
@@ -165,10 +165,10 @@ found_none false true x y h = absurd (let z : ◌≡◌ {A = ℕ} 0 1 = cc in om
 found_none false false x y h = (refl, h)
 
 module _ (inputs : ℕ) (gs : List Gate) (values : List Bool) where
-  restless_more : (n k : ℕ) → k < n → Rests inputs gs values k → restless_from inputs gs values k (n - k) ≡ restless_from inputs gs values (k + 1) (n - (k + 1))
+  pub restless_more : (n k : ℕ) → k < n → Rests inputs gs values k → restless_from inputs gs values k (n - k) ≡ restless_from inputs gs values (k + 1) (n - (k + 1))
   restless_more n k h r = let e : n - k ≡ suc (n - (k + 1)) = omega arith in rw e (settled _ _ _ _ r)
 
-  restless_here : (n k : ℕ) → k < n → (Rests inputs gs values k → ⊥) → restless_from inputs gs values k (n - k) ≡ Some (inputs + k)
+  pub restless_here : (n k : ℕ) → k < n → (Rests inputs gs values k → ⊥) → restless_from inputs gs values k (n - k) ≡ Some (inputs + k)
   restless_here n k h r = let e : n - k ≡ suc (n - (k + 1)) = omega arith in rw e (unsettled _ _ _ _ r)
 
   -- gates at rest are passed

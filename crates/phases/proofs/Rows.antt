@@ -15,7 +15,7 @@ use Rattle.step.specs.declared.rows.Reading.{Reading}
 use Rattle.step.proofs.Looks.{held_tracks}
 use Rattle.step.specs.Rows.{look, unknown, stored_at, held_at, reading, Readable}
 
-joined_tracks : (v w : Value) → joined (tracks v) (tracks w) ≡ tracks (join v w)
+pub joined_tracks : (v w : Value) → joined (tracks v) (tracks w) ≡ tracks (join v w)
 joined_tracks Zero Zero = refl
 joined_tracks Zero One = refl
 joined_tracks Zero Two = refl
@@ -27,7 +27,7 @@ joined_tracks Two One = refl
 joined_tracks Two Two = refl
 
 -- a function of what is looked at
-look_after : {A B C : Type 0} (h : B → C) (f : A → B) (z : B) (xs : List A) (i : ℕ) → look (λ x. h (f x)) (h z) xs i ≡ h (look f z xs i)
+pub look_after : {A B C : Type 0} (h : B → C) (f : A → B) (z : B) (xs : List A) (i : ℕ) → look (λ x. h (f x)) (h z) xs i ≡ h (look f z xs i)
 unfolding look
 look_after h f z [] i = refl
 look_after h f z (x ∷ xs) zero = refl
@@ -40,7 +40,7 @@ held_by_draft (x ∷ xs) zero d t = refl
 held_by_draft (x ∷ xs) (suc i) d t = ap (λ (hs : List (Tracks _)). x.held ∷ hs) (held_by_draft xs i d t)
 
 module _ {S : Type 0} (m : S → ℕ → Bool) where
-  held_whole : (xs : List (Line S)) (n i : ℕ) → held_at m xs n i ≡ whole (stored_at m xs n i)
+  pub held_whole : (xs : List (Line S)) (n i : ℕ) → held_at m xs n i ≡ whole (stored_at m xs n i)
   held_whole xs n i = look_after whole (λ (x : Line S). answers m x.held n) unknown xs i
 
   fused : (xs : List (Line S)) (n i : ℕ) → stored_at m xs n i ≡ look (λ t. answers m t n) unknown (map (λ x. x.held) xs) i
@@ -49,10 +49,10 @@ module _ {S : Type 0} (m : S → ℕ → Bool) where
   fused (x ∷ xs) n zero = refl
   fused (x ∷ xs) n (suc i) = fused xs n i
 
-  stored_same : (xs ys : List (Line S)) → map (λ x. x.held) xs ≡ map (λ x. x.held) ys → (n i : ℕ) → stored_at m xs n i ≡ stored_at m ys n i
+  pub stored_same : (xs ys : List (Line S)) → map (λ x. x.held) xs ≡ map (λ x. x.held) ys → (n i : ℕ) → stored_at m xs n i ≡ stored_at m ys n i
   stored_same xs ys e n i = fused xs n i ∙ ap (λ (hs : List (Tracks S)). look (λ t. answers m t n) unknown hs i) e ∙ sym (fused ys n i)
 
-  held_same : (xs ys : List (Line S)) → map (λ x. x.held) xs ≡ map (λ x. x.held) ys → (n i : ℕ) → held_at m xs n i ≡ held_at m ys n i
+  pub held_same : (xs ys : List (Line S)) → map (λ x. x.held) xs ≡ map (λ x. x.held) ys → (n i : ℕ) → held_at m xs n i ≡ held_at m ys n i
   held_same xs ys e n i = held_whole xs n i ∙ ap whole (stored_same xs ys e n i) ∙ sym (held_whole ys n i)
 
   pub reading_same : (P : ℕ) (xs ys : List (Line S)) → map (λ x. x.held) xs ≡ map (λ x. x.held) ys → (n : ℕ) → reading m P xs n ≡ reading m P ys n

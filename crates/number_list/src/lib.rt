@@ -3,3 +3,4 @@
 
 pub mod list;
 mod numbers;
+mod rise;

@@ -1,8 +1,12 @@
 // Numbers in rising order, in a row of 192 places.
-ghost use Rattle.std.specs.Prelude.{◌≡◌, ℕ, ◌+◌, ◌<◌, ◌≤◌, min, true, false, ◌&&◌, Decides, ◌==◌, nat_lt, slice_set, List, [], ◌++◌, take, All, Contains, MatchOption};
+ghost use Rattle.std.specs.Prelude.{◌≡◌, ℕ, ◌+◌, ◌<◌, ◌≤◌, min, true, false, ◌&&◌, Decides, ◌==◌, nat_lt, slice_set, take, [], ◌∷◌, ◌≢◌, MatchBool, Some};
 ghost use Rattle.fault_set.specs.Members.{tally};
 ghost use Rattle.rising.specs.Rows.{held, listed};
+ghost use Rattle.std.specs.List.{slice_get};
+ghost use Rattle.number_list.specs.Left.{left, ahead};
 ghost use Rattle.number_list.specs.Rules.{Keeps};
+
+use crate::rise::Rise;
 
 /// The numbers of a row's longest beginning in which each is above the one before and none is above 191.
 /// What stands behind that beginning does not matter, nor a length above 192.
@@ -51,12 +55,12 @@ impl Numbers {
         &self.at[..usize::from(self.len.min(192))]
     }
 
-    /// The numbers: what is used before the first number above 191, as far as it rises.
-    fn held(&self) -> &[u8]
-        ensures { result.now ≡ held self.now.at self.now.len }
+    /// The numbers, one after another.
+    #[tactic(auto, using(rising::proofs::Rise::rise_held))]
+    fn numbers(&self) -> Rise<'_>
+        ensures { left result ≡ held self.now.at self.now.len }
     {
-        let low = self.used().split(|n| !is_number(*n)).next().unwrap_or(&[]);
-        low.chunk_by(|a, b| a < b).next().unwrap_or(&[])
+        Rise::of(self.used())
     }
 
     /// Puts n behind the last number.
@@ -70,11 +74,11 @@ impl Numbers {
     }
 
     /// Whether n is among the numbers.
-    #[tactic(auto, using(rising::proofs::Held::held_has))]
+    #[tactic(auto, using(rising::proofs::Rising::listed_low))]
     pub fn has(&self, n: u8) -> bool
         ensures { result ≡ listed self.now.at self.now.len n }
     {
-        self.held().contains(&n)
+        is_number(n) && self.next_after(n) == n
     }
 
     /// The smallest number at or above n, and 192 if there is none.
@@ -84,11 +88,9 @@ impl Numbers {
         ensures least { (k : ℕ) → n ≤ k → k < result → listed self.now.at self.now.len k ≡ false }
         ensures found { result < 192 → (n ≤ result) × (listed self.now.at self.now.len result ≡ true) }
     {
-        self.held()
-            .iter()
-            .find(|m| **m >= n)
-            .copied()
-            .unwrap_or(192)
+        let mut numbers = self.numbers();
+        while numbers.next_below(n.min(192)).is_some() {}
+        numbers.take_next()
     }
 
     /// How many numbers there are.
@@ -96,14 +98,14 @@ impl Numbers {
     pub fn count(&self) -> u8
         ensures { result ≡ tally (listed self.now.at self.now.len) 192 }
     {
-        self.held().len() as u8
+        self.numbers().count() as u8
     }
 
     /// Whether both have the same numbers.
     pub fn same(&self, other: &Numbers) -> bool
         ensures { Decides result ((k : ℕ) → listed self.now.at self.now.len k ≡ listed other.now.at other.now.len k) }
     {
-        self.held() == other.held()
+        self.numbers().eq(other.numbers())
     }
 
     /// The numbers that `keep` says yes to, by one walk along both: it is asked of each number that either has,
@@ -113,36 +115,42 @@ impl Numbers {
         ensures { Keeps (F.post keep) (listed self.now.at self.now.len) (listed other.now.at other.now.len) (listed result.at result.len) }
     {
         let mut out = Numbers::none();
-        let mut ours = self.held();
-        let mut theirs = other.held();
-        while let Some(n) = lowest(ours, theirs) {
-            let our_rest = ours.strip_prefix(&[n]);
-            let their_rest = theirs.strip_prefix(&[n]);
-            if keep(our_rest.is_some(), their_rest.is_some()) {
+        let mut ours = self.numbers();
+        let mut theirs = other.numbers();
+        let mut our_next = ours.take_next();
+        let mut their_next = theirs.take_next();
+        loop {
+            let n = our_next.min(their_next);
+            if !is_number(n) {
+                return out;
+            }
+            let we_have = pass(&mut our_next, &mut ours, n);
+            let they_have = pass(&mut their_next, &mut theirs, n);
+            if keep(we_have, they_have) {
                 out.push(n);
             }
-            ours = our_rest.unwrap_or(ours);
-            theirs = their_rest.unwrap_or(theirs);
         }
-        out
     }
 }
 
-/// Kept, no plainer: each kind keeps its own bound, on which its law rests; one for both would be a test in a third crate.
-// Whether a set can have n.
+// Kept, no plainer: each kind keeps its own bound, on which its law rests; one for both would be a test in a third crate.
+/// Whether a set can have n.
 pub fn is_number(n: u8) -> bool
     ensures { result ≡ nat_lt n 192 }
 {
     n <= 191
 }
 
-// The lower of the first numbers of two lists.
-fn lowest(a: &[u8], b: &[u8]) -> Option<u8>
-    ensures { MatchOption result ((a.now ≡ []) × (b.now ≡ [])) (λ n. Contains (take 1 a.now ++ take 1 b.now) n × All (λ x. n ≤ x) (take 1 a.now) × All (λ x. n ≤ x) (take 1 b.now)) }
+// Goes past n if it comes next, and says whether it did.
+fn pass(next: &mut u8, rest: &mut Rise<'_>, n: u8) -> bool
+    requires low { n < 192 }
+    requires old { 192 ≤ next.old → left rest.old ≡ [] }
+    ensures taken { MatchBool result (ahead next.old rest.old ≡ n ∷ ahead next.new rest.new) ((ahead next.new rest.new ≡ ahead next.old rest.old) × (slice_get (ahead next.old rest.old) 0 ≢ Some n)) }
+    ensures none { 192 ≤ next.new → left rest.new ≡ [] }
 {
-    match (a, b) {
-        ([x, ..], [y, ..]) => Some((*x).min(*y)),
-        ([x, ..], []) | ([], [x, ..]) => Some(*x),
-        ([], []) => None,
+    let found = *next == n;
+    if found {
+        *next = rest.take_next();
     }
+    found
 }

@@ -1,22 +1,21 @@
 -- The numbers that a row holds, as a list.
-use Rattle.std.proofs.Common.{◌≡◌, ℕ, zero, suc, ◌+◌, ◌-◌, ◌<◌, ◌≤◌, min, Bool, true, false, not, ◌||◌, eqb, ltb, List, [], ◌∷◌, ◌++◌, length, get_or, take, Option, None, Some, sym, refl, ap, ◌∙◌, ap₂, subst, ⊎_elim, arith}
+use Rattle.std.proofs.Common.{◌≡◌, ℕ, zero, suc, ◌<◌, ◌≤◌, min, Bool, true, false, cond, ◌&&◌, ◌||◌, eqb, ltb, List, [], ◌∷◌, length, get_or, take, Option, None, Some, sym, refl, ap, ◌∙◌, ap₂, subst, ⊎_elim, arith}
 use Rattle.std.proofs.Math.Bool.{or-false}
 use Rattle.std.proofs.Math.Seq.{take-suc}
-use Rattle.std.proofs.lemmas.Bool.{cases_order, cases_lt, cases_eq, eq-eqb, ne_eqb, lt-ltb, le-ltb, ltb-true, ltb-false, and_from, and_left, and_right, or_from, or_left, or_right, both_ways, not-true, not-false}
-use Rattle.std.proofs.lemmas.List.{append-nil, nil_from_length, length-append, length-take-le, get_or-take, get_or_append_left, take_at, take-take, take-append-le}
+use Rattle.std.proofs.lemmas.Bool.{cases_order, cases_lt, cases_eq, cond-true, cond-false, eq-eqb, ne_eqb, lt-ltb, le-ltb, and_left, or_left, both_ways}
+use Rattle.std.proofs.lemmas.List.{length-take-le, get_or-take}
 use Rattle.std.proofs.lemmas.List.Elements.{All-from_get_or}
 use Rattle.std.proofs.lemmas.List.Folds.{list_any-append, list_any_at, list_any_none}
-use Rattle.std.specs.List.{list_any, AllWithin, HoldsAt, IsFirstMatchOrLen, IsChunkByPrefix}
-use Rattle.std.specs.Option.{MatchOption, unwrap_or, option_copied}
-use Rattle.std.specs.Bool.{MatchBool}
-use Rattle.std.specs.Fn.{ComputesKey, ComputesOnPairs}
-use Rattle.std.specs.Slice.Iter.{split_rest, split_done, split_callee, split_steps, chunk_by_rest, chunk_by_callee, chunk_by_steps}
-use Rattle.std.specs.declared.slice.Split.{Split}
-use Rattle.std.specs.declared.slice.ChunkBy.{ChunkBy}
-use denote.Param.Members.{Mut}
-use denote.Ref.{Bor}
-use Rattle.rising.specs.Rows.{follows, reach, among, listed, held}
-use Rattle.rising.proofs.Rising.{Rising, reach_is, run_le, run_rises, rising_up, follows_low}
+use Rattle.std.proofs.lemmas.Bool.Decides.{Decides-eqb}
+use Rattle.std.proofs.lemmas.Iterator.{YieldsList}
+use Rattle.std.proofs.lemmas.Slice.Eq.{slice_eq-Decides}
+use Rattle.std.specs.Cmp.Lexicographic.{pointwise}
+use Rattle.std.specs.Iterator.{AlwaysYields, YieldsThen, ComparesItemsByEq}
+use Rattle.std.specs.List.{list_any, All, AllZip}
+use Rattle.std.specs.Option.{MatchOption, IfSome, is_some}
+use Rattle.std.specs.Bool.{Decides}
+use Rattle.rising.specs.Rows.{reach, among, listed, held}
+use Rattle.rising.proofs.Rising.{run_le, run_rises, rising_up, follows_low}
 
 -- the list has k
 abbrev pub has : List ℕ → ℕ → Bool
@@ -78,6 +77,13 @@ module _ (at : List ℕ) (len : ℕ) (long : length at ≡ 192) where
   pub held_has : (k : ℕ) → listed at len k ≡ has (held at len) k
   held_has k = among_has (reach at len) k reach_le
 
+-- all numbers are above k
+pub has_below : (xs : List ℕ) (k : ℕ) → ((i : ℕ) → i < length xs → k < get_or xs i 0) → has xs k ≡ false
+has_below xs k h = has_none xs k (λ i l e. let z = h i l in omega arith)
+
+pub has_head : (x : ℕ) (xs : List ℕ) → has (x ∷ xs) x ≡ true
+has_head x xs = or_left (eqb x x) (has xs x) (eq-eqb x x refl)
+
 -- ---- the first number from n on
 
 pub record Next (f : ℕ → Bool) (n r : ℕ) : Type 0 where
@@ -85,49 +91,66 @@ pub record Next (f : ℕ → Bool) (n r : ℕ) : Type 0 where
   pub least : (k : ℕ) → n ≤ k → k < r → f k ≡ false
   pub found : r < 192 → (n ≤ r) × (f r ≡ true)
 
--- of a row's numbers, all are below n, or x is the first that is not
-abbrev pub FirstFrom : List ℕ → ℕ → Option (Bor ℕ) → Type 0
-FirstFrom xs n r = MatchOption r (AllWithin (λ x. x < n) xs 0 (length xs)) (λ x. (n ≤ x.now) × (i : ℕ) × (i < length xs) × HoldsAt (λ y. y ≡ x.now) xs i × AllWithin (λ y. y < n) xs 0 i)
+-- ys, and the next before it: 192 stands for none
+abbrev pub with_next : ℕ → List ℕ → List ℕ
+with_next a ys = cond (ltb a 192) (a ∷ ys) ys
 
-first_next : (xs : List ℕ) (n : ℕ) (r : Option (Bor ℕ)) → Ranked xs → FirstFrom xs n r → Next (has xs) n (unwrap_or (option_copied r) 192)
-first_next xs n None ranked h = record {
-  bound = omega arith;
-  least = λ k a b. has_none xs k (λ i l e. let z : get_or xs i 0 < n = h i 0 (omega arith) l in omega arith);
-  found = λ l. absurd (omega arith);
-}
-first_next xs n (Some x) ranked h =
-    let from : n ≤ x.now = h.0 in
-    let i = h.1 in
-    let inside : i < length xs = h.2 in
-    let is : get_or xs i 0 ≡ x.now = h.3 0 in
-    record {
-      bound = let z = ranked.low i inside in omega arith;
-      least = λ k a b. has_none xs k (λ j l e. ⊎_elim
-          (λ (s : j < i). let z : get_or xs j 0 < n = h.4 j 0 (omega arith) s in omega arith)
-          (λ (s : i ≤ j).
-          ⊎_elim
-          (λ (t : i < j). let z = ranked.up i j t l in omega arith)
-          (λ (t : j ≤ i). let z : get_or xs j 0 ≡ get_or xs i 0 = ap (λ (y : ℕ). get_or xs y 0) (let q : j ≡ i = omega arith in q) in omega arith)
-          (cases_lt i j))
-          (cases_lt j i));
-      found = λ l. (from, has_at xs i x.now inside is);
-    }
+pub next_some : (a : ℕ) (ys : List ℕ) → a < 192 → with_next a ys ≡ a ∷ ys
+next_some a ys h = cond-true (ltb a 192) (a ∷ ys) ys (lt-ltb a 192 h)
 
-pub next_listed : (at : List ℕ) (len : ℕ) → length at ≡ 192 → (xs : List ℕ) → xs ≡ held at len → (n : ℕ) (r : Option (Bor ℕ)) → FirstFrom xs n r →
-    Next (listed at len) n (unwrap_or (option_copied r) 192)
-next_listed at len long xs e n r h =
-    let z = first_next xs n r (subst Ranked (sym e) (held_ranked at len long)) h in
-    let is = λ (k : ℕ). held_has at len long k ∙ ap (λ (ys : List ℕ). has ys k) (sym e) in
-    record { bound = z.bound; least = λ k a b. is k ∙ z.least k a b; found = λ l. ((z.found l).0, is (unwrap_or (option_copied r) 192) ∙ (z.found l).1) }
+pub next_none : (a : ℕ) (ys : List ℕ) → (192 ≤ a → ys ≡ []) → 192 ≤ a → with_next a ys ≡ []
+next_none a ys none h = cond-false (ltb a 192) (a ∷ ys) ys (le-ltb a 192 h) ∙ none h
+
+-- what is left of a walk that has gone past numbers below n: those from n on are those that pass f
+pub record Onward (f : ℕ → Bool) (n : ℕ) (xs : List ℕ) : Type 0 where
+  pub ranked : Ranked xs
+  pub is : (k : ℕ) → n ≤ k → f k ≡ has xs k
+
+pub onward_held : (at : List ℕ) (len n : ℕ) → length at ≡ 192 → Onward (listed at len) n (held at len)
+onward_held at len n long = record { ranked = held_ranked at len long; is = λ k h. held_has at len long k }
+
+-- the walk went past the next number, if there is one below the end, and else stays
+abbrev pub Below : ℕ → List ℕ → Option ℕ → List ℕ → Type 0
+Below end xs r ys = MatchOption r ((ys ≡ xs) × All (λ m. end ≤ m) (take 1 xs)) (λ x. (x < end) × (xs ≡ x ∷ ys))
+
+pub onward_more : (f : ℕ → Bool) (n : ℕ) (xs : List ℕ) (r : Option ℕ) (ys : List ℕ) → Onward f n xs → Below (min n 192) xs r ys → is_some r ≡ true → Onward f n ys
+onward_more f n xs None ys o b s = absurd (both_ways _ refl s)
+onward_more f n xs (Some x) ys o b s =
+    let p : Onward f n (x ∷ ys) = subst (Onward f n) b.1 o in
+    let l : x < min n 192 = b.0 in
+    record { ranked = ranked_tail x ys p.ranked; is = λ k h. p.is k h ∙ ap (λ (t : Bool). t || has ys k) (ne_eqb x k (λ q. omega arith)) }
+
+pub onward_ends : (n : ℕ) (xs : List ℕ) (r : Option ℕ) (ys : List ℕ) → Below (min n 192) xs r ys → is_some r ≡ false → (ys ≡ xs) × All (λ m. min n 192 ≤ m) (take 1 xs)
+onward_ends n xs None ys b s = b
+onward_ends n xs (Some x) ys b s = absurd (both_ways _ s refl)
+
+-- the number that comes next is the first from n on
+pub next_listed : (f : ℕ → Bool) (n : ℕ) (xs : List ℕ) (p : Option ℕ) (ys : List ℕ) (r : ℕ) (zs : List ℕ) → Onward f n xs → Below (min n 192) xs p ys → is_some p ≡ false →
+    r ≤ 192 → with_next r zs ≡ ys → (192 ≤ r → zs ≡ []) → Next f n r
+next_listed f n xs p ys r zs o b s top e none =
+    let ends = onward_ends n xs p ys b s in
+    ⊎_elim
+    (λ (l : r < 192). one l (sym ends.0 ∙ sym e ∙ next_some r zs l) ends.1)
+    (λ (h : 192 ≤ r).
+    let is : xs ≡ [] = sym ends.0 ∙ sym e ∙ next_none r zs none h in
+    record { bound = top; least = λ k c d. o.is k c ∙ ap (λ (ms : List ℕ). has ms k) is; found = λ l. absurd (omega arith) })
+    (cases_lt r 192)
+  where
+    above : (k : ℕ) → k < r → Ranked (r ∷ zs) → (i : ℕ) → i < length (r ∷ zs) → k < get_or (r ∷ zs) i 0
+    above k l t zero h = l
+    above k l t (suc i) h = let z = ranked_head r zs t i (omega arith) in omega arith
+
+    one : r < 192 → xs ≡ r ∷ zs → All (λ m. min n 192 ≤ m) (take 1 xs) → Next f n r
+    one low is all =
+        let q : Onward f n (r ∷ zs) = subst (Onward f n) is o in
+        let up : min n 192 ≤ r = (subst (λ (ms : List ℕ). All (λ m. min n 192 ≤ m) (take 1 ms)) is all) 0 0 (omega arith) in
+        record {
+          bound = top;
+          least = λ k c d. q.is k c ∙ has_below (r ∷ zs) k (above k d q.ranked);
+          found = λ l. (omega arith, q.is r (omega arith) ∙ has_head r zs);
+        }
 
 -- ---- equal members
-
--- all numbers are above k
-pub has_below : (xs : List ℕ) (k : ℕ) → ((i : ℕ) → i < length xs → k < get_or xs i 0) → has xs k ≡ false
-has_below xs k h = has_none xs k (λ i l e. let z = h i l in omega arith)
-
-pub has_head : (x : ℕ) (xs : List ℕ) → has (x ∷ xs) x ≡ true
-has_head x xs = or_left (eqb x x) (has xs x) (eq-eqb x x refl)
 
 -- a first number below that of the other list is not in that list
 apart : (x y : ℕ) (xs ys : List ℕ) → Ranked (y ∷ ys) → ((k : ℕ) → has (x ∷ xs) k ≡ has (y ∷ ys) k) → x < y → ⊥
@@ -164,112 +187,42 @@ pub same_held : (a : List ℕ) (la : ℕ) (b : List ℕ) (lb : ℕ) → length a
 same_held a la b lb ea eb same =
     same_members (held a la) (held b lb) (held_ranked a la ea) (held_ranked b lb eb) (λ k. sym (held_has a la ea k) ∙ same k ∙ held_has b lb eb k)
 
--- ---- how the list is cut out of the row
+-- ---- what `eq` of two walks says
 
--- what stands before the first number above 191
-abbrev pub LowFront : List ℕ → List ℕ → Type 0
-LowFront used low = (rest : List ℕ) × (used ≡ low ++ rest) × IsFirstMatchOrLen (λ n. not (ltb n 192)) used (length low)
+module _ {S T : Type 0} (steps : S → Option ℕ → S → Type 0) (others : T → Option ℕ → T → Type 0) (r : Bool) where
+  abbrev Ends : Option ℕ → Option ℕ → Type 0
+  Ends o p = MatchOption o (MatchOption p (r ≡ true) (λ _. r ≡ false)) (λ x. (r ≡ false) × IfSome p (λ y. eqb x y ≡ false))
 
--- what rises from the start on
-abbrev pub RisingFront : List ℕ → List ℕ → Type 0
-RisingFront low xs = (rest : List ℕ) × (low ≡ xs ++ rest) × (0 < length low → 0 < length xs) × IsChunkByPrefix ltb low (length xs)
+  at_end : (o p : Option ℕ) (xs ys : List ℕ) (s u : S) (t w : T) → AlwaysYields steps (λ x. x) s xs → AlwaysYields others (λ x. x) t ys → steps s o u → others t p w → Ends o p →
+      r ≡ pointwise eqb xs ys
+  at_end None None (x ∷ xs) ys s u t w e f a b h = absurd (e.0 u a)
+  at_end None (Some y) (x ∷ xs) ys s u t w e f a b h = absurd (e.0 u a)
+  at_end (Some x) None [] ys s u t w e f a b h = absurd (e x u a)
+  at_end (Some x) (Some y) [] ys s u t w e f a b h = absurd (e x u a)
+  at_end None None [] (y ∷ ys) s u t w e f a b h = absurd (f.0 w b)
+  at_end None (Some y) [] [] s u t w e f a b h = absurd (f y w b)
+  at_end (Some x) None (z ∷ xs) (y ∷ ys) s u t w e f a b h = absurd (f.0 w b)
+  at_end (Some x) (Some y) (z ∷ xs) [] s u t w e f a b h = absurd (f y w b)
+  at_end None None [] [] s u t w e f a b h = h
+  at_end None (Some y) [] (z ∷ ys) s u t w e f a b h = h
+  at_end (Some x) None (z ∷ xs) [] s u t w e f a b h = h.0
+  at_end (Some x) (Some y) (x' ∷ xs) (y' ∷ ys) s u t w e f a b h =
+      h.0 ∙ sym (and_left (eqb x' y') (pointwise eqb xs ys) (sym (ap₂ eqb (e.1 x u a).0 (f.1 y w b).0) ∙ h.1))
 
-module _ (at : List ℕ) (n : ℕ) (inside : n ≤ length at) (low xs : List ℕ) (l : LowFront (take n at) low) (r : RisingFront low xs) where
-  lengths : (length (take n at) ≡ n) × (length low ≤ n) × (length xs ≤ length low)
-  lengths =
-      let a = length-take-le n at inside in
-      let b = ap length l.1 ∙ length-append low l.0 in
-      let c = ap length r.1 ∙ length-append xs r.0 in
-      (a, omega arith, omega arith)
+  along : (cs bs : List ℕ) (o p : Option ℕ) (xs ys : List ℕ) (s u : S) (t w : T) → AlwaysYields steps (λ x. x) s xs → AlwaysYields others (λ x. x) t ys → YieldsThen steps s cs o u →
+      YieldsThen others t bs p w → AllZip (λ x y. eqb x y ≡ true) cs bs → Ends o p → r ≡ pointwise eqb xs ys
+  along [] [] o p xs ys s u t w e f a b z h = at_end o p xs ys s u t w e f (subst (λ j. steps j o u) (sym a.1) a.2) (subst (λ j. others j p w) (sym b.1) b.2) h
+  along [] (y ∷ bs) o p xs ys s u t w e f a b z h = absurd z
+  along (x ∷ cs) [] o p xs ys s u t w e f a b z h = absurd z
+  along (x ∷ cs) (y ∷ bs) o p [] ys s u t w e f a b z h = absurd (e x a.1.0 a.1.1)
+  along (x ∷ cs) (y ∷ bs) o p (x' ∷ xs) [] s u t w e f a b z h = absurd (f y b.1.0 b.1.1)
+  along (x ∷ cs) (y ∷ bs) o p (x' ∷ xs) (y' ∷ ys) s u t w e f a b z h =
+      let m = e.1 x a.1.0 a.1.1 in
+      let n = f.1 y b.1.0 b.1.1 in
+      let same : eqb x' y' ≡ true = sym (ap₂ eqb m.0 n.0) ∙ z.0 in
+      along cs bs o p xs ys a.1.0 u b.1.0 w m.1 n.1 (a.0, a.1.2, a.2) (b.0, b.1.2, b.2) z.1 h ∙ sym (ap (λ (c : Bool). c && pointwise eqb xs ys) same)
 
-  low_is : (i : ℕ) → i < length low → get_or low i 0 ≡ get_or at i 0
-  low_is i h =
-      let z = lengths in
-      sym (get_or_append_left low l.0 0 i h) ∙ ap (λ (ys : List ℕ). get_or ys i 0) (sym l.1) ∙ get_or-take n at i 0 (omega arith)
-
-  low_below : (i : ℕ) → i < length low → get_or at i 0 < 192
-  low_below i h =
-      let z = lengths in
-      let a = ltb-true (get_or (take n at) i 0) 192 (not-false _ (l.2.0 i 0 (omega arith) h)) in
-      let b : get_or (take n at) i 0 ≡ get_or at i 0 = get_or-take n at i 0 (omega arith) in
-      omega arith
-
-  goes_up : (i : ℕ) → i + 1 < length xs → get_or at i 0 < get_or at (i + 1) 0
-  goes_up i h =
-      let z = lengths in
-      let a = ltb-true (get_or low i 0) (get_or low (i + 1) 0) (r.3.0 i 0 h) in
-      let b = low_is i (omega arith) in
-      let c = low_is (i + 1) (omega arith) in
-      omega arith
-
-  front : xs ≡ take (length xs) at
-  front =
-      let z = lengths in
-      sym (take_at xs r.0 (length xs) refl)
-      ∙ ap (take (length xs)) (sym r.1)
-      ∙ sym (take-append-le (length xs) low l.0 z.2)
-      ∙ ap (take (length xs)) (sym l.1)
-      ∙ take-take (length xs) n at (omega arith)
-
-  rises : Rising at (length xs)
-  rises p h =
-      let z = lengths in
-      and_from _ _ (lt-ltb (get_or at p 0) 192 (low_below p (omega arith)))
-      (⊎_elim
-      (λ (e : p ≡ 0). or_left (eqb p 0) _ (eq-eqb p 0 e))
-      (λ (ne : p ≡ 0 → ⊥).
-      let q : p - 1 + 1 ≡ p = omega arith in
-      let u : get_or at (p - 1) 0 < get_or at (p - 1 + 1) 0 = goes_up (p - 1) (omega arith) in
-      or_right (eqb p 0) _ (lt-ltb (get_or at (p - 1) 0) (get_or at p 0) (subst (λ (i : ℕ). get_or at (p - 1) 0 < get_or at i 0) q u)))
-      (cases_eq p 0))
-
-  ends : length xs < n → follows at (length xs) ≡ false
-  ends h =
-      let z = lengths in
-      ⊎_elim
-      (λ (s : length xs < length low).
-      let some : 0 < length xs = r.2 (omega arith) in
-      let a = ltb-false (get_or low (length xs - 1) 0) (get_or low (length xs) 0) (r.3.1 s 0) in
-      let b = low_is (length xs - 1) (omega arith) in
-      let c = low_is (length xs) s in
-      and_right (ltb (get_or at (length xs) 0) 192) _
-      (or_from (eqb (length xs) 0) _ (ne_eqb (length xs) 0 (λ e. omega arith)) (le-ltb (get_or at (length xs - 1) 0) (get_or at (length xs) 0) (omega arith))))
-      (λ (s : length low ≤ length xs).
-      let e : length low ≡ length xs = omega arith in
-      let a = ltb-false (get_or (take n at) (length low) 0) 192 (not-true _ (l.2.1 (omega arith) 0)) in
-      let b : get_or (take n at) (length low) 0 ≡ get_or at (length low) 0 = get_or-take n at (length low) 0 (omega arith) in
-      let c : get_or at (length low) 0 ≡ get_or at (length xs) 0 = ap (λ (i : ℕ). get_or at i 0) e in
-      and_left (ltb (get_or at (length xs) 0) 192) _ (le-ltb (get_or at (length xs) 0) 192 (omega arith)))
-      (cases_lt (length xs) (length low))
-
-pub held_is : (at : List ℕ) (len : ℕ) → length at ≡ 192 → (low xs : List ℕ) → LowFront (take (min len 192) at) low → RisingFront low xs → xs ≡ held at len
-held_is at len long low xs l r =
-    let n = min len 192 in
-    let inside : min len 192 ≤ length at = omega arith in
-    let z = lengths at (min len 192) inside low xs l r in
-    front at (min len 192) inside low xs l r
-    ∙ ap (λ (n : ℕ). take n at)
-    (sym (reach_is at len (length xs) (rises at (min len 192) inside low xs l r) (omega arith) (ends at (min len 192) inside low xs l r)))
-
--- ---- what the library's calls say
-
-split_rest_of : (b : Bool) (used low : List ℕ) (rest : List ℕ) → MatchBool b (used ≡ low) ((y : ℕ) × (used ≡ low ++ (y ∷ rest))) → (more : List ℕ) × (used ≡ low ++ more)
-split_rest_of true used low rest h = ([], h ∙ sym (append-nil low))
-split_rest_of false used low rest h = (h.0 ∷ rest, h.1)
-
--- the first part of a `split` at the numbers above 191
-pub low_split : {F : Type 0} (g : Mut F (Bor ℕ × Unit {0}) Bool) (s t : Split ℕ F) (r : Option (Bor (List ℕ))) (d : Bor (List ℕ)) → split_done s ≡ false →
-    ComputesKey g (λ n. not (ltb n 192)) (split_callee s) → split_steps g s r t → LowFront (split_rest s) (unwrap_or r d).now
-low_split g s t None d new test h = absurd (both_ways _ new h.0)
-low_split g s t (Some x) d new test h =
-    let rest = split_rest_of (split_done t) (split_rest s) x.now (split_rest t) h.1 in
-    (rest.0, rest.1, ((h.2 (λ n. not (ltb n 192)) test).1.0, (h.2 (λ n. not (ltb n 192)) test).1.1))
-
--- the first part of a `chunk_by` where each number is below the next
-pub rising_chunk : {F : Type 0} (g : Mut F (Bor ℕ × (Bor ℕ × Unit {0})) Bool) (s t : ChunkBy ℕ F) (r : Option (Bor (List ℕ))) (d : Bor (List ℕ)) → d.now ≡ [] →
-    ComputesOnPairs g ltb (chunk_by_callee s) → chunk_by_steps g s r t → RisingFront (chunk_by_rest s) (unwrap_or r d).now
-rising_chunk g s t None d none test h =
-    let left : length (chunk_by_rest s) ≡ 0 = h.0 in
-    let got : length d.now ≡ 0 = ap length none in
-    ([], nil_from_length (chunk_by_rest s) left ∙ sym none ∙ sym (append-nil d.now), λ l. absurd (omega arith), (λ k e l. absurd (omega arith), λ l. absurd (omega arith)))
-rising_chunk g s t (Some x) d none test h = (chunk_by_rest t, h.0, λ l. h.1, ((h.2 ltb test).1.0, (h.2 ltb test).1.1))
+pub eq_walks : {S U T : Type 0} {steps : S → Option ℕ → S → Type 0} {others : T → Option ℕ → T → Type 0} {s : S} {xs ys : List ℕ} (becomes : U → T → Type 0) (other : U) (r : Bool) →
+    ComparesItemsByEq steps becomes others s other eqb r → YieldsList steps (λ x. x) s xs → ((it : T) → becomes other it → YieldsList others (λ x. x) it ys) → Decides r (xs ≡ ys)
+eq_walks {steps = steps} {others = others} {s = s} {xs = xs} {ys = ys} becomes other r d e f =
+    slice_eq-Decides Decides-eqb xs ys r (along steps others r d.1 d.2 d.3 d.4 xs ys s d.5 d.0 d.6 e.runs (f d.0 d.7).runs d.8 d.9 d.10 d.11)

@@ -2,3 +2,4 @@ pub mod Tally
 pub mod Rising
 pub mod Held
 pub mod Merge
+pub mod Rise

@@ -1,16 +1,14 @@
 -- A walk along two lists of rising numbers at once that keeps some of them in a row.
-use Rattle.std.proofs.Common.{◌≡◌, ℕ, zero, suc, ◌+◌, ◌-◌, ◌<◌, ◌≤◌, min, Bool, true, false, cond, ◌&&◌, ◌||◌, eqb, ltb, ◌⊎◌, List, [], ◌∷◌, ◌++◌, length, get_or, set, take, drop, Option, None, Some, sym, refl, ap, ◌∙◌, ap₂, subst, ⊎_elim, arith, length-set, get_or-set_other, get_or-set_same}
+use Rattle.std.proofs.Common.{◌≡◌, ℕ, zero, suc, ◌+◌, ◌-◌, ◌<◌, ◌≤◌, min, Bool, true, false, cond, ◌&&◌, ◌||◌, eqb, ltb, ◌⊎◌, ◌≢◌, List, [], ◌∷◌, ◌++◌, length, get_or, set, take, drop, Some, sym, refl, ap, ◌∙◌, ap₂, subst, ⊎_elim, arith, length-set, get_or-set_other, get_or-set_same}
 use Rattle.std.proofs.Math.Bool.{or-false}
 use Rattle.std.proofs.lemmas.Bool.{cases_lt, cases_eq, lt-ltb, eq-eqb, ne_eqb, and_from, and_left, or_from, or_left, or_right, cond-true, cond-false}
 use Rattle.std.proofs.lemmas.List.Elements.{All-nil, All-cons, Contains-append_cases}
 use Rattle.std.specs.Bool.{MatchBool}
 use Rattle.std.specs.Cmp.Lexicographic.{pointwise}
-use Rattle.std.specs.List.{All, Contains}
-use Rattle.std.specs.Option.{MatchOption, is_some, unwrap_or}
-use denote.Ref.{Bor}
+use Rattle.std.specs.List.{All, Contains, slice_get}
 use Rattle.rising.specs.Rows.{follows, reach, among, listed, held}
 use Rattle.rising.proofs.Rising.{Rising, reach_is, not_among, among_more}
-use Rattle.rising.proofs.Held.{has, has_below, Ranked, ranked_tail, ranked_head, held_ranked, held_has}
+use Rattle.rising.proofs.Held.{with_next, next_some, next_none, has, has_below, Ranked, ranked_tail, ranked_head, held_ranked, held_has}
 
 -- ---- what has been kept
 
@@ -177,9 +175,13 @@ pub record Merging (says : Bool → Bool → Bool → Type 0) (f g : ℕ → Boo
   pub right : Ahead g ys v
   pub kept : Kept out o v (Wanted says f g)
 
+-- n is the lowest of two lists
+abbrev pub LowestOf : List ℕ → List ℕ → ℕ → Type 0
+LowestOf xs ys n = Contains (xs ++ ys) n × All (λ x. n ≤ x) xs × All (λ x. n ≤ x) ys
+
 -- n is the lowest of the numbers that stand first
 abbrev pub Lowest : List ℕ → List ℕ → ℕ → Type 0
-Lowest xs ys n = Contains (take 1 xs ++ take 1 ys) n × All (λ x. n ≤ x) (take 1 xs) × All (λ x. n ≤ x) (take 1 ys)
+Lowest xs ys n = LowestOf (take 1 xs) (take 1 ys) n
 
 first_known : (f : ℕ → Bool) (xs : List ℕ) (v n : ℕ) → Ahead f xs v → Contains (take 1 xs) n → (begins xs n ≡ true) × (v ≤ n) × (n < 192)
 first_known f [] v n a c = let z = c.1 in absurd (omega arith)
@@ -241,28 +243,58 @@ module _ (says : Bool → Bool → Bool → Type 0) (f g : ℕ → Bool) where
   pub merging_room : (xs ys : List ℕ) (out : List ℕ) (o n : ℕ) → Merging says f g xs ys out o → Lowest xs ys n → o < 192
   merging_room xs ys out o n m l = let known = lowest_known f g xs ys m.v n m.left m.right l in let few = m.kept.few in omega arith
 
--- ---- what the library's calls say
+-- ---- what the calls of a walk say
 
-pub lowest_both : (xs ys : List ℕ) (n : ℕ) → 1 ≤ length xs → 1 ≤ length ys → n ≡ min (get_or xs 0 0) (get_or ys 0 0) → Lowest xs ys n
-lowest_both [] ys n a b e = absurd (omega arith)
-lowest_both (x ∷ xs) [] n a b e = absurd (omega arith)
-lowest_both (x ∷ xs) (y ∷ ys) n a b e = (
+lowest_two : (x y n : ℕ) → n ≡ min x y → LowestOf (x ∷ []) (y ∷ []) n
+lowest_two x y n e = (
   ⊎_elim (λ (l : x < y). (0, omega arith, omega arith)) (λ (l : y ≤ x). (1, omega arith, omega arith)) (cases_lt x y),
   All-cons (λ z. n ≤ z) x [] (omega arith) (All-nil (λ z. n ≤ z)),
   All-cons (λ z. n ≤ z) y [] (omega arith) (All-nil (λ z. n ≤ z)),
 )
 
--- n was stripped off the front, or did not stand there
-abbrev pub Stripped : List ℕ → ℕ → Option (Bor (List ℕ)) → Type 0
-Stripped xs n r = MatchOption r (begins xs n ≡ false) (λ x. (begins xs n ≡ true) × (x.now ≡ drop 1 xs) × (length x.now + 1 ≡ length xs))
+lowest_at : (xs xs' ys ys' : List ℕ) (n : ℕ) → xs ≡ xs' → ys ≡ ys' → Lowest xs' ys' n → Lowest xs ys n
+lowest_at xs xs' ys ys' n p q l = subst (λ (zs : List ℕ). Lowest zs ys n) (sym p) (subst (λ (zs : List ℕ). Lowest xs' zs n) (sym q) l)
 
-pub stripped_begins : (xs : List ℕ) (n : ℕ) (r : Option (Bor (List ℕ))) (b : Bool) → b ≡ is_some r → Stripped xs n r → b ≡ begins xs n
-stripped_begins xs n None b e s = e ∙ sym s
-stripped_begins xs n (Some x) b e s = e ∙ sym s.0
+-- the lower of the two that come next
+pub lowest_next : (a b n : ℕ) (xs ys : List ℕ) → (192 ≤ a → xs ≡ []) → (192 ≤ b → ys ≡ []) → n ≡ min a b → n < 192 → Lowest (with_next a xs) (with_next b ys) n
+lowest_next a b n xs ys p q e h =
+    ⊎_elim
+    (λ (l : a < 192).
+    ⊎_elim
+    (λ (m : b < 192). lowest_at _ (a ∷ xs) _ (b ∷ ys) n (next_some a xs l) (next_some b ys m) (lowest_two a b n e))
+    (λ (m : 192 ≤ b).
+    lowest_at _ (a ∷ xs) _ [] n (next_some a xs l) (next_none b ys q m) ((0, omega arith, omega arith), All-cons (λ z. n ≤ z) a [] (omega arith) (All-nil (λ z. n ≤ z)), All-nil (λ z. n ≤ z)))
+    (cases_lt b 192))
+    (λ (l : 192 ≤ a).
+    ⊎_elim
+    (λ (m : b < 192).
+    lowest_at _ [] _ (b ∷ ys) n (next_none a xs p l) (next_some b ys m) ((0, omega arith, omega arith), All-nil (λ z. n ≤ z), All-cons (λ z. n ≤ z) b [] (omega arith) (All-nil (λ z. n ≤ z))))
+    (λ (m : 192 ≤ b). absurd (omega arith))
+    (cases_lt b 192))
+    (cases_lt a 192)
 
-pub stripped_after : (xs : Bor (List ℕ)) (n : ℕ) (r : Option (Bor (List ℕ))) (rest : Bor (List ℕ)) → rest ≡ unwrap_or r xs → Stripped xs.now n r → rest.now ≡ after xs.now n
-stripped_after xs n None rest e s = ap (λ (y : Bor (List ℕ)). y.now) e ∙ sym (cond-false (begins xs.now n) (drop 1 xs.now) xs.now s)
-stripped_after xs n (Some x) rest e s = ap (λ (y : Bor (List ℕ)). y.now) e ∙ s.1 ∙ sym (cond-true (begins xs.now n) (drop 1 xs.now) xs.now s.0)
+-- n came off the front, or did not stand there
+abbrev pub Taken : List ℕ → ℕ → Bool → List ℕ → Type 0
+Taken xs n b ys = MatchBool b (xs ≡ n ∷ ys) ((ys ≡ xs) × (slice_get xs 0 ≢ Some n))
+
+pub taken_begins : (xs : List ℕ) (n : ℕ) (b : Bool) (ys : List ℕ) → Taken xs n b ys → b ≡ begins xs n
+taken_begins xs n true ys t = sym (ap (λ (zs : List ℕ). begins zs n) t ∙ begins_head n ys n refl)
+taken_begins [] n false ys t = refl
+taken_begins (x ∷ xs) n false ys t = sym (begins_other x xs n (λ e. t.1 (ap Some e)))
+
+pub taken_after : (xs : List ℕ) (n : ℕ) (b : Bool) (ys : List ℕ) → Taken xs n b ys → ys ≡ after xs n
+taken_after xs n true ys t = sym (ap (λ (zs : List ℕ). after zs n) t ∙ cond-true (begins (n ∷ ys) n) ys (n ∷ ys) (begins_head n ys n refl))
+taken_after xs n false ys t = t.0 ∙ sym (cond-false (begins xs n) (drop 1 xs) xs (sym (taken_begins xs n false ys t)))
+
+-- a step by what each walk says of n
+pub merging_taken : (says : Bool → Bool → Bool → Type 0) (f g : ℕ → Bool) (xs ys : List ℕ) (out : List ℕ) (o n : ℕ) (a b put : Bool) (xs' ys' : List ℕ) (out' : List ℕ) (o' : ℕ) →
+    Merging says f g xs ys out o → Lowest xs ys n → Taken xs n a xs' → Taken ys n b ys' → says a b put → Pushed put n out o out' o' → Merging says f g xs' ys' out' o'
+merging_taken says f g xs ys out o n a b put xs' ys' out' o' m l s t said pushed =
+    subst (λ (zs : List ℕ). Merging says f g zs ys' out' o') (sym (taken_after xs n a xs' s))
+    (subst (λ (zs : List ℕ). Merging says f g (after xs n) zs out' o') (sym (taken_after ys n b ys' t))
+    (merging_more says f g xs ys out o n put out' o' m l
+    (subst (λ (c : Bool). says c (begins ys n) put) (taken_begins xs n a xs' s) (subst (λ (c : Bool). says a c put) (taken_begins ys n b ys' t) said))
+    pushed))
 
 -- ---- the start
 

@@ -34,6 +34,10 @@ pub run_le : (at : List ℕ) (n : ℕ) → run at n ≤ n
 run_le at zero = let z = run_none at in omega arith
 run_le at (suc n) = ⊎_elim (λ y. let e = y.2 in omega arith) (λ y. let e = y.1 in let h = run_le at n in omega arith) (run_cases at n)
 
+-- no row begins with more than 192 numbers
+pub reach_le : (at : List ℕ) (len : ℕ) → reach at len ≤ 192
+reach_le at len = let l = run_le at (min len 192) in omega arith
+
 pub run_rises : (at : List ℕ) (n : ℕ) → Rising at (run at n)
 run_rises at zero p h = let z = run_none at in absurd (omega arith)
 run_rises at (suc n) p h =
